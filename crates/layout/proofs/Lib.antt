@@ -1,0 +1,5 @@
+pub mod Parts
+pub mod Back
+pub mod Encoded
+pub mod Nodes
+pub mod Read

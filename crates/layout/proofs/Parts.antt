@@ -1,0 +1,146 @@
+-- A header's, a child entry's and an interval entry's bytes: how many they are, and the stores one after the other that write them. Assumes nothing.
+use Prim.Native.Nat.{ℕ, suc, _+_, _-_, _*_, _≤_, _^_, _<_}
+use mathlib.Core.Path.{_≡_, sym, ap, _∙_}
+use mathlib.Core.List.{List, _++_, append-assoc}
+use native.Mathlib.Nat.{suc-mul, mul-le-mul-right}
+use native.Mathlib.Omega.{arith}
+use lib.ListN.{length, replicate, length-append}
+use lib.Seq.{sets}
+use mir.Syntax.{w64}
+use mir.Val.{toZ, ofZ}
+use lib.IntN.{ℤ}
+use Rattle.words.specs.Words.{le, num}
+use Rattle.words.proofs.Stores.{sets-append}
+use Rattle.words.proofs.Numbers.{length-le, le-wide}
+use Rattle.layout.specs.declared.Shape.{Shape}
+use Rattle.layout.specs.declared.Header.{Header}
+use Rattle.layout.specs.declared.Child.{Child}
+use Rattle.layout.specs.declared.Entry.{Entry}
+use Rattle.layout.specs.Layout.{headerSize, childSize, entrySize, nodeSize, childAt, entryAt, bounds, counts, headerBytes, childBytes, entryBytes, readEntry}
+
+-- ---- lengths
+
+pub length-bounds : (h : Header) → length (bounds h) ≡ 24
+unfolding bounds
+length-bounds h = simp (length-append, length-le)
+
+pub length-counts : (h : Header) → length (counts h) ≡ 8
+unfolding counts
+length-counts h = simp (length-append, length-le)
+
+pub length-header : (h : Header) → length (headerBytes h) ≡ headerSize
+unfolding headerBytes
+length-header h = simp (length-append, length-bounds, length-counts)
+
+pub length-child : (c : Child) → length (childBytes c) ≡ childSize
+unfolding childBytes
+length-child c = simp (length-append, length-le)
+
+pub length-entry : (e : Entry) → length (entryBytes e) ≡ entrySize
+unfolding entryBytes
+length-entry e = simp (length-append, length-le)
+
+-- ---- the parts lie within a node
+
+module _ (s : Shape) where
+  pub header-room : headerSize ≤ nodeSize s
+  unfolding nodeSize
+  header-room = omega arith
+
+  pub child-room : (j : ℕ) → j < s .c → childAt j + childSize ≤ nodeSize s
+  unfolding nodeSize childAt
+  child-room j h = omega arith
+
+  pub entry-room : (j : ℕ) → j < s .k → entryAt s j + entrySize ≤ nodeSize s
+  unfolding nodeSize entryAt
+  entry-room j h = omega arith
+
+  -- node i of n lies in the bytes that the n take
+  pub node-room : (i n m : ℕ) → i < n → n * nodeSize s ≤ m → i * nodeSize s + nodeSize s ≤ m
+  node-room i n m h g =
+      let e : suc i * nodeSize s ≡ i * nodeSize s + nodeSize s = suc-mul i (nodeSize s) in
+      let p : suc i * nodeSize s ≤ n * nodeSize s = mul-le-mul-right (nodeSize s) h in
+      omega arith
+
+-- ---- the stores, each into the list that the one before it left
+
+pub bounds-put : (l l₁ l₂ l₃ l₄ : List ℕ) (h : Header)
+    → l₁ ≡ sets l 0 (le 8 (h .start))
+    → l₂ ≡ sets l₁ 8 (le 8 (h .end))
+    → l₃ ≡ sets l₂ 16 (le 4 (h .sequence .0))
+    → l₄ ≡ sets l₃ 20 (le 4 (h .parent .0))
+    → l₄ ≡ sets l 0 (bounds h)
+unfolding bounds
+bounds-put l l₁ l₂ l₃ l₄ h p₁ p₂ p₃ p₄ =
+    let e : sets l 0 (bounds h) ≡ sets (sets (sets (sets l 0 (le 8 (h .start))) 8 (le 8 (h .end))) 16 (le 4 (h .sequence .0))) 20 (le 4 (h .parent .0)) = simp (sets-append, length-le) in
+    cc e
+
+-- state and two zero bytes are put as one number of three bytes
+pub counts-put : (l l₁ l₂ l₃ l₄ : List ℕ) (h : Header)
+    → h .state < 2 ^ 8
+    → l₁ ≡ sets l 24 (le 2 (h .intervals))
+    → l₂ ≡ sets l₁ 26 (le 2 (h .children))
+    → l₃ ≡ sets l₂ 28 (le 1 (h .level))
+    → l₄ ≡ sets l₃ 29 (le 3 (h .state))
+    → l₄ ≡ sets l 24 (counts h)
+unfolding counts
+counts-put l l₁ l₂ l₃ l₄ h f p₁ p₂ p₃ p₄ =
+    let w : le 3 (h .state) ≡ le 1 (h .state) ++ le 2 0 = le-wide 1 2 (h .state) f in
+    let e : sets l 24 (le 2 (h .intervals) ++ (le 2 (h .children) ++ (le 1 (h .level) ++ le 3 (h .state)))) ≡ sets (sets (sets (sets l 24 (le 2 (h .intervals))) 26 (le 2 (h .children))) 28 (le 1 (h .level))) 29 (le 3 (h .state)) = simp (sets-append, length-le) in
+    let d : sets l 24 (counts h) ≡ sets l 24 (le 2 (h .intervals) ++ (le 2 (h .children) ++ (le 1 (h .level) ++ le 3 (h .state)))) = rw w in
+    cc (e, d)
+
+pub header-put : (l l₁ l₂ : List ℕ) (h : Header) → l₁ ≡ sets l 0 (bounds h) → l₂ ≡ sets l₁ 24 (counts h) → l₂ ≡ sets l 0 (headerBytes h)
+unfolding headerBytes
+header-put l l₁ l₂ h p₁ p₂ =
+    let e : sets l 0 (bounds h ++ counts h) ≡ sets (sets l 0 (bounds h)) 24 (counts h) = simp (sets-append, length-bounds) in
+    cc e
+
+-- a header and zeros behind it
+pub empty-put : (l l₁ l₂ : List ℕ) (size : ℕ) (h : Header) → l₁ ≡ sets l 0 (headerBytes h) → l₂ ≡ sets l₁ headerSize (replicate (size - headerSize) 0) → l₂ ≡ sets l 0 (headerBytes h ++ replicate (size - headerSize) 0)
+empty-put l l₁ l₂ size h p₁ p₂ =
+    let e : sets l 0 (headerBytes h ++ replicate (size - headerSize) 0) ≡ sets (sets l 0 (headerBytes h)) headerSize (replicate (size - headerSize) 0) = simp (sets-append, length-header) in
+    cc e
+
+pub child-put : (l l₁ l₂ : List ℕ) (at : ℕ) (c : Child)
+    → l₁ ≡ sets l at (le 4 (c .sequence .0))
+    → l₂ ≡ sets l₁ (at + 4) (le 8 (c .start))
+    → l₂ ≡ sets l at (childBytes c)
+unfolding childBytes
+child-put l l₁ l₂ at c p₁ p₂ =
+    let e : sets l at (childBytes c) ≡ sets (sets l at (le 4 (c .sequence .0))) (at + 4) (le 8 (c .start)) = simp (sets-append, length-le) in
+    cc e
+
+-- kind and three zero bytes are put as one number of four bytes
+pub entry-put : (l l₁ l₂ l₃ l₄ l₅ : List ℕ) (at v : ℕ) (x : Entry)
+    → x .kind < 2 ^ 8
+    → l₁ ≡ sets l at (le 4 (x .quark .0))
+    → l₂ ≡ sets l₁ (at + 4) (le 4 (x .kind))
+    → l₃ ≡ sets l₂ (at + 8) (le 8 (x .start))
+    → l₄ ≡ sets l₃ (at + 16) (le 8 (x .end))
+    → v ≡ ofZ w64 (x .value)
+    → l₅ ≡ sets l₄ (at + 24) (le 8 v)
+    → l₅ ≡ sets l at (entryBytes x)
+unfolding entryBytes
+entry-put l l₁ l₂ l₃ l₄ l₅ at v x f p₁ p₂ p₃ p₄ q p₅ =
+    let w : le 4 (x .kind) ≡ le 1 (x .kind) ++ le 3 0 = le-wide 1 3 (x .kind) f in
+    let rest : List ℕ = le 8 (x .start) ++ (le 8 (x .end) ++ le 8 (ofZ w64 (x .value))) in
+    let d : entryBytes x ≡ le 4 (x .quark .0) ++ (le 4 (x .kind) ++ rest) = ap (λ (z : List ℕ). le 4 (x .quark .0) ++ z) (sym (append-assoc (le 1 (x .kind)) (le 3 0) rest) ∙ ap (λ (z : List ℕ). z ++ rest) (sym w)) in
+    let i : at + 4 + 4 ≡ at + 8 = omega arith in
+    let j : at + 8 + 8 ≡ at + 16 = omega arith in
+    let k : at + 16 + 8 ≡ at + 24 = omega arith in
+    let e : sets l at (le 4 (x .quark .0) ++ (le 4 (x .kind) ++ rest)) ≡ sets (sets (sets (sets (sets l at (le 4 (x .quark .0))) (at + 4) (le 4 (x .kind))) (at + 8) (le 8 (x .start))) (at + 16) (le 8 (x .end))) (at + 24) (le 8 (ofZ w64 (x .value))) = simp (sets-append, length-le, i, j, k) in
+    cc (e, d)
+
+-- ---- an interval entry read, its value from the eight bytes of its bits
+
+pub entry-read : (l : List ℕ) (at q k a b v : ℕ) (z y : ℤ)
+    → q ≡ num l at 4
+    → k ≡ num l (at + 4) 1
+    → a ≡ num l (at + 8) 8
+    → b ≡ num l (at + 16) 8
+    → v ≡ num l (at + 24) 8
+    → z ≡ toZ w64 v
+    → y ≡ z
+    → record { quark = record { 0 = q }; kind = k; start = a; end = b; value = y } ≡ readEntry l at
+entry-read l at q k a b v z y p₁ p₂ p₃ p₄ p₅ p₆ p₇ = cc
