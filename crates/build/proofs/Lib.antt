@@ -1,0 +1,9 @@
+pub mod Ways
+pub mod Plans
+pub mod Carried
+pub mod Trials
+pub mod Stands
+pub mod Heads
+pub mod Steps
+pub mod Turns
+pub mod Inserted

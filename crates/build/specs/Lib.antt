@@ -1,0 +1,6 @@
+pub mod Settle
+pub mod Moves
+pub mod Write
+pub mod Trial
+pub mod Feasible
+pub mod Carried

@@ -1,0 +1,6 @@
+pub mod Room
+pub mod Runs
+pub mod Ways
+pub mod Facts
+pub mod Effects
+pub mod Kept

@@ -1,0 +1,5 @@
+pub mod Values
+pub mod Changes
+pub mod Table
+pub mod Sound
+pub mod Decisions
