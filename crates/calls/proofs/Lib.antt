@@ -1,0 +1,7 @@
+pub mod Refused
+pub mod Openings
+pub mod Changes
+pub mod Additions
+pub mod Finishes
+pub mod Exactly
+pub mod Kept
