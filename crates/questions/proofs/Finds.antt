@@ -1,0 +1,164 @@
+-- What the walk finds for a quark: turn by turn, and that it lies in the bytes. Assumes nothing.
+use Prim.Native.Nat.{ℕ, zero, suc, _+_, _-_, _*_, _≤_, _<_}
+use mathlib.Core.Path.{_≡_, refl, sym, ap, subst, _∙_}
+use mathlib.Core.Bool.{Bool, true, false, cond, not, _&&_}
+use mathlib.Core.List.{List}
+use native.Mathlib.Omega.{arith}
+use lib.Dec.{T, eqb}
+use lib.ListN.{length}
+use borrow.Author.Tests.{eq-eqb, ne-eqb, not-true, not-false}
+use Rattle.layout.specs.declared.Entry.{Entry}
+use Rattle.layout.specs.declared.Header.{Header}
+use Rattle.layout.specs.Layout.{entrySize, nodeSize, entryAt, readHeader, readEntry}
+use Rattle.questions.specs.declared.View.{View}
+use Rattle.questions.specs.declared.Walk.{Walk}
+use Rattle.questions.specs.declared.Rule.{Rule}
+use Rattle.questions.specs.View.{Roomy}
+use Rattle.questions.specs.Rules.{broken, kept, covers}
+use Rattle.questions.specs.Walk.{placeOf, rootOf, step}
+use Rattle.questions.specs.Found.{many, more, noted, look, lookIn, lookAt, found, foundOf, shown}
+use Rattle.questions.proofs.Room.{entries-room, place-room, place-small}
+use Rattle.questions.proofs.Broken.{kept-fits}
+use Rattle.questions.proofs.Walks.{step-keeps, root-inside}
+
+-- ---- one entry
+
+pub more-first : (s p : ℕ) → s ≡ 0 → p + 1 ≡ more s p
+unfolding more
+more-first s p e = rw (eq-eqb s 0 e)
+
+pub more-many : (s p : ℕ) → (s ≡ 0 → ⊥) → many ≡ more s p
+unfolding more
+more-many s p e = rw (ne-eqb s 0 e)
+
+module _ (q t p : ℕ) (e : Entry) (s : ℕ) (b : Bool) (is : b ≡ covers t e) where
+  pub noted-yes : (r : ℕ) → eqb (e .quark .0) q && b ≡ true → r ≡ more s p → r ≡ noted q t p e s
+  unfolding noted
+  noted-yes r y g = rw (← is, y) g
+
+  pub noted-no : eqb (e .quark .0) q && b ≡ false → s ≡ noted q t p e s
+  unfolding noted
+  noted-no n = rw (← is, n)
+
+-- ---- a node's entries
+
+module _ (l : List ℕ) (q t p n i s : ℕ) where
+  pub look-turn : (e : Entry) (r : ℕ) → e ≡ readEntry l p → r ≡ noted q t p e s → i < n → look l q t p (n - i) s ≡ look l q t (p + entrySize) (n - (i + 1)) r
+  unfolding look
+  look-turn e r is gives lt =
+      let z : n - i ≡ suc (n - (i + 1)) = omega arith in
+      let y : noted q t p (readEntry l p) s ≡ r = ap (λ (x : Entry). noted q t p x s) (sym is) ∙ sym gives in
+      ap (λ (k : ℕ). look l q t p k s) z ∙ ap (λ (x : ℕ). look l q t (p + entrySize) (n - (i + 1)) x) y
+
+  pub look-done : n ≤ i → look l q t p (n - i) s ≡ s
+  unfolding look
+  look-done le = let z : n - i ≡ 0 = omega arith in ap (λ (k : ℕ). look l q t p k s) z
+
+module _ (l : List ℕ) (v : View) (q t level p : ℕ) (h : Header) (w : Walk) (s : ℕ) (rule : Rule) (x : Bool)
+    (at : p ≡ placeOf v (w .place)) (reads : h ≡ readHeader l p) (is : rule ≡ broken v w level h) (good : x ≡ kept rule) where
+  stands : lookIn l v q t level h p w s ≡ lookAt l v q t level w s
+  unfolding lookAt
+  stands =
+      let f : h ≡ readHeader l (placeOf v (w .place)) = reads ∙ ap (readHeader l) at in
+      ap (λ (k : ℕ). lookIn l v q t level h k w s) at ∙ ap (λ (y : Header). lookIn l v q t level y (placeOf v (w .place)) w s) f
+
+  pub look-skips : not x ≡ true → s ≡ lookAt l v q t level w s
+  unfolding lookIn
+  look-skips n = (rw (← is, ← good, not-true x n)) ∙ stands
+
+  pub look-node : (first r : ℕ) → not x ≡ false → first ≡ entryAt (v .shape) 0 → r ≡ look l q t (p + first) (h .intervals) s → r ≡ lookAt l v q t level w s
+  unfolding lookIn
+  look-node first r n from e = (rw (← is, ← good, not-false x n, ← from) e) ∙ stands
+
+-- ---- the loop
+
+module _ (l : List ℕ) (v : View) (q t : ℕ) where
+  pub found-stop : (n : ℕ) (w : Walk) (s : ℕ) → w .go ≡ false → s ≡ found l v q t n w s
+  unfolding found
+  found-stop zero w s e = refl
+  found-stop (suc n) w s e = sym (ap (λ (b : Bool). cond b (found l v q t n (step l v t n w) (lookAt l v q t n w s)) s) e)
+
+  pub found-none : (n : ℕ) (w : Walk) (s : ℕ) → n ≡ 0 → s ≡ found l v q t n w s
+  unfolding found
+  found-none n w s e = rw e
+
+  pub found-turn : (n : ℕ) (w r : Walk) (s s′ : ℕ) → 0 < n → w .go ≡ true → r ≡ step l v t (n - 1) w → s′ ≡ lookAt l v q t (n - 1) w s → found l v q t n w s ≡ found l v q t (n - 1) r s′
+  unfolding found
+  found-turn n w r s s′ z g p h =
+      let e : n ≡ suc (n - 1) = omega arith in
+      ap (λ (k : ℕ). found l v q t k w s) e
+      ∙ ap (λ (b : Bool). cond b (found l v q t (n - 1) (step l v t (n - 1) w) (lookAt l v q t (n - 1) w s)) s) g
+      ∙ ap (λ (x : Walk). found l v q t (n - 1) x (lookAt l v q t (n - 1) w s)) (sym p)
+      ∙ ap (λ (x : ℕ). found l v q t (n - 1) r x) (sym h)
+
+  pub found-root : (w : Walk) → w ≡ rootOf v → foundOf l v q t ≡ found l v q t (v .level + 1) w 0
+  unfolding foundOf
+  found-root w e = ap (λ (x : Walk). found l v q t (v .level + 1) x 0) (sym e)
+
+-- ---- R7
+
+pub shown-some : (s : ℕ) → shown s ≡ true → 0 < s
+unfolding shown
+shown-some zero e = absurd (subst T (sym e) tt)
+shown-some (suc s) e = omega arith
+
+-- ---- what was found: nothing, one entry that lies in the bytes l and in the first 2^32 of them, or many
+
+abbrev pub Near : List ℕ → ℕ → Type 0
+Near l s = shown s ≡ true → (s + 31 ≤ length l) × (s + 31 ≤ 4294967296)
+
+none-near : (l : List ℕ) → Near l 0
+unfolding shown
+none-near l e = absurd (subst T (sym e) tt)
+
+noted-near : (l : List ℕ) (q t p : ℕ) (e : Entry) (s : ℕ) → p + entrySize ≤ length l → p + entrySize ≤ 4294967296 → Near l s → Near l (noted q t p e s)
+unfolding noted more shown
+noted-near l q t p e s h k g = go (eqb (e .quark .0) q && covers t e) (eqb s 0)
+  where
+    go : (b c : Bool) → Near l (cond b (cond c (p + 1) many) s)
+    go true true e = (omega arith, omega arith)
+    go true false e = absurd (subst T (sym e) tt)
+    go false c e = g e
+
+look-near : (l : List ℕ) (q t p n s : ℕ) → p + entrySize * n ≤ length l → p + entrySize * n ≤ 4294967296 → Near l s → Near l (look l q t p n s)
+unfolding look
+look-near l q t p zero s h k g = g
+look-near l q t p (suc n) s h k g = look-near l q t (p + entrySize) n _ (omega arith) (omega arith) (noted-near l q t p (readEntry l p) s (omega arith) (omega arith) g)
+
+module _ (l : List ℕ) (v : View) (roomy : Roomy v l) (q t : ℕ) where
+  node-near : (level : ℕ) (w : Walk) (s : ℕ) → w .place .0 < v .used → Near l s → Near l (lookAt l v q t level w s)
+  unfolding lookAt lookIn
+  node-near level w s lt near = go (kept (broken v w level h)) refl
+    where
+      p : ℕ
+      p = placeOf v (w .place)
+
+      h : Header
+      h = readHeader l p
+
+      go : (b : Bool) → kept (broken v w level h) ≡ b → Near l (cond b (look l q t (p + entryAt (v .shape) 0) (h .intervals) s) s)
+      go true e =
+          let r : entryAt (v .shape) 0 + entrySize * h .intervals ≤ nodeSize (v .shape) = entries-room (v .shape) (h .intervals) (kept-fits v w level h e .intervals) in
+          look-near l q t (p + entryAt (v .shape) 0) (h .intervals) s (omega (arith, place-room v l roomy (w .place) lt)) (omega (arith, place-small v l roomy (w .place) lt)) near
+      go false e = near
+
+  found-near : (n : ℕ) (w : Walk) (s : ℕ) → (w .go ≡ true → w .place .0 < v .used) → Near l s → Near l (found l v q t n w s)
+  unfolding found
+  found-near zero w s inside near = near
+  found-near (suc n) w s inside near =
+      go (w .go) refl (λ (i : w .place .0 < v .used). found-near n (step l v t n w) (lookAt l v q t n w s) (step-keeps l v t n w (step l v t n w) refl .inside) (node-near n w s i near))
+    where
+      go : (b : Bool) → w .go ≡ b → (w .place .0 < v .used → Near l (found l v q t n (step l v t n w) (lookAt l v q t n w s)))
+          → Near l (cond b (found l v q t n (step l v t n w) (lookAt l v q t n w s)) s)
+      go true e f = f (inside e)
+      go false e f = near
+
+  pub root-near : Near l (foundOf l v q t)
+  unfolding foundOf
+  root-near = found-near (v .level + 1) (rootOf v) 0 (root-inside v (rootOf v) refl (roomy .root)) (none-near l)
+
+-- what was found, and is the only one, can be read
+pub near-found : (l : List ℕ) (v : View) → Roomy v l → (q t s : ℕ) (x : Bool) → s ≡ foundOf l v q t → x ≡ shown s → not x ≡ false → (0 < s) × (s + 31 ≤ length l)
+near-found l v roomy q t s x is one n =
+    let e : shown s ≡ true = sym one ∙ not-false x n in
+    (shown-some s e, subst (λ (k : ℕ). Near l k) (sym is) (root-near l v roomy q t) e .0)

@@ -1,0 +1,10 @@
+pub mod Room
+pub mod Broken
+pub mod Ways
+pub mod Walks
+pub mod Finds
+pub mod Singles
+pub mod After
+pub mod Tables
+pub mod Fulls
+pub mod Heads

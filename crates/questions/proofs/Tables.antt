@@ -1,0 +1,248 @@
+-- The full question's table: turn by turn, and that it says of each quark what a single's walk finds. Assumes nothing.
+use Prim.Native.Nat.{ℕ, zero, suc, _+_, _-_, _≤_, _<_}
+use mathlib.Core.Path.{_≡_, refl, sym, ap, subst, _∙_}
+use mathlib.Core.Bool.{Bool, true, false, cond, not, _&&_}
+use mathlib.Core.List.{List}
+use native.Mathlib.Omega.{arith}
+use lib.Dec.{leb, ltb, eqb}
+use lib.ListN.{length, getD, set, length-set}
+use lib.Seq.{getD-set-same, getD-set-other}
+use borrow.Author.Tests.{ltb-true, ltb-false, eqb-true, eqb-false, le-leb, lt-leb, not-true, not-false}
+use Rattle.layout.specs.declared.Entry.{Entry}
+use Rattle.layout.specs.declared.Header.{Header}
+use Rattle.layout.specs.Layout.{entrySize, entryAt, readHeader, readEntry}
+use Rattle.transient.specs.declared.Ongoing.{Ongoing}
+use Rattle.transient.specs.Transient.{ongoingAt}
+use Rattle.questions.specs.declared.View.{View}
+use Rattle.questions.specs.declared.Walk.{Walk}
+use Rattle.questions.specs.declared.Rule.{Rule}
+use Rattle.questions.specs.Rules.{broken, kept, covers}
+use Rattle.questions.specs.Walk.{placeOf, rootOf, step}
+use Rattle.questions.specs.Found.{more, noted, look, lookIn, lookAt, found}
+use Rattle.questions.specs.Table.{ongoing, begun, begunFrom, note, noteAll, noteIn, noteAt, foundFrom, foundAll}
+use Rattle.questions.proofs.Broken.{and-left}
+
+-- ---- an entry is noted
+
+module _ (t p : ℕ) (e : Entry) (xs : List ℕ) where
+  pub note-in : (b : Bool) → ltb (e .quark .0) 4096 && b ≡ true → e .quark .0 < 4096
+  note-in b h = ltb-true _ _ (and-left (ltb (e .quark .0) 4096) b h)
+
+  module _ (b : Bool) (is : b ≡ covers t e) where
+    pub note-yes : (r : ℕ) → ltb (e .quark .0) 4096 && b ≡ true → r ≡ more (getD xs (e .quark .0) 0) p → set xs (e .quark .0) r ≡ note t p e xs
+    unfolding note
+    note-yes r h g = rw (← is, h, ← g)
+
+    pub note-no : ltb (e .quark .0) 4096 && b ≡ false → xs ≡ note t p e xs
+    unfolding note
+    note-no h = rw (← is, h)
+
+  length-note : length (note t p e xs) ≡ length xs
+  unfolding note
+  length-note = go (ltb (e .quark .0) 4096 && covers t e)
+    where
+      go : (b : Bool) → length (cond b (set xs (e .quark .0) (more (getD xs (e .quark .0) 0) p)) xs) ≡ length xs
+      go true = simp length-set
+      go false = refl
+
+  note-at : (q : ℕ) → length xs ≡ 4096 → q < 4096 → getD (note t p e xs) q 0 ≡ noted q t p e (getD xs q 0)
+  unfolding note noted
+  note-at q long h = go (ltb (e .quark .0) 4096) (covers t e) (eqb (e .quark .0) q) refl refl
+    where
+      go : (c a d : Bool) → ltb (e .quark .0) 4096 ≡ c → eqb (e .quark .0) q ≡ d
+          → getD (cond (c && a) (set xs (e .quark .0) (more (getD xs (e .quark .0) 0) p)) xs) q 0 ≡ cond (d && a) (more (getD xs q 0) p) (getD xs q 0)
+      go true true true f g =
+          subst (λ (k : ℕ). getD (set xs (e .quark .0) (more (getD xs (e .quark .0) 0) p)) k 0 ≡ more (getD xs k 0) p) (eqb-true (e .quark .0) q g)
+          (getD-set-same xs (e .quark .0) (more (getD xs (e .quark .0) 0) p) 0 (omega (arith, ltb-true (e .quark .0) 4096 f)))
+      go true true false f g = getD-set-other xs (e .quark .0) q (more (getD xs (e .quark .0) 0) p) 0 (λ z. eqb-false (e .quark .0) q g (sym z))
+      go false true true f g = absurd (omega (arith, ltb-false (e .quark .0) 4096 f, eqb-true (e .quark .0) q g))
+      go false true false f g = refl
+      go true false true f g = refl
+      go true false false f g = refl
+      go false false true f g = refl
+      go false false false f g = refl
+
+-- ---- a node's entries
+
+module _ (l : List ℕ) (t p n i : ℕ) (xs : List ℕ) where
+  pub all-turn : (e : Entry) (ys : List ℕ) → e ≡ readEntry l p → ys ≡ note t p e xs → i < n → noteAll l t p (n - i) xs ≡ noteAll l t (p + entrySize) (n - (i + 1)) ys
+  unfolding noteAll
+  all-turn e ys is gives lt =
+      let z : n - i ≡ suc (n - (i + 1)) = omega arith in
+      let y : note t p (readEntry l p) xs ≡ ys = ap (λ (x : Entry). note t p x xs) (sym is) ∙ sym gives in
+      ap (λ (k : ℕ). noteAll l t p k xs) z ∙ ap (λ (x : List ℕ). noteAll l t (p + entrySize) (n - (i + 1)) x) y
+
+  pub all-done : n ≤ i → noteAll l t p (n - i) xs ≡ xs
+  unfolding noteAll
+  all-done le = let z : n - i ≡ 0 = omega arith in ap (λ (k : ℕ). noteAll l t p k xs) z
+
+length-all : (l : List ℕ) (t p n : ℕ) (xs : List ℕ) → length (noteAll l t p n xs) ≡ length xs
+unfolding noteAll
+length-all l t p zero xs = refl
+length-all l t p (suc n) xs = length-all l t (p + entrySize) n _ ∙ length-note t p (readEntry l p) xs
+
+all-at : (l : List ℕ) (q t p n : ℕ) (xs : List ℕ) → length xs ≡ 4096 → q < 4096 → getD (noteAll l t p n xs) q 0 ≡ look l q t p n (getD xs q 0)
+unfolding noteAll look
+all-at l q t p zero xs long h = refl
+all-at l q t p (suc n) xs long h =
+    all-at l q t (p + entrySize) n (note t p (readEntry l p) xs) (length-note t p (readEntry l p) xs ∙ long) h
+    ∙ ap (λ (s : ℕ). look l q t (p + entrySize) n s) (note-at t p (readEntry l p) xs q long h)
+
+-- ---- a node
+
+module _ (l : List ℕ) (v : View) (t level p : ℕ) (h : Header) (w : Walk) (xs : List ℕ) (rule : Rule) (x : Bool)
+    (at : p ≡ placeOf v (w .place)) (reads : h ≡ readHeader l p) (is : rule ≡ broken v w level h) (good : x ≡ kept rule) where
+  stands : noteIn l v t level h p w xs ≡ noteAt l v t level w xs
+  unfolding noteAt
+  stands =
+      let f : h ≡ readHeader l (placeOf v (w .place)) = reads ∙ ap (readHeader l) at in
+      ap (λ (k : ℕ). noteIn l v t level h k w xs) at ∙ ap (λ (y : Header). noteIn l v t level y (placeOf v (w .place)) w xs) f
+
+  pub node-skips : not x ≡ true → xs ≡ noteAt l v t level w xs
+  unfolding noteIn
+  node-skips n = (rw (← is, ← good, not-true x n)) ∙ stands
+
+  pub node-notes : (first : ℕ) (ys : List ℕ) → not x ≡ false → first ≡ entryAt (v .shape) 0 → ys ≡ noteAll l t (p + first) (h .intervals) xs → ys ≡ noteAt l v t level w xs
+  unfolding noteIn
+  node-notes first ys n from e = (rw (← is, ← good, not-false x n, ← from) e) ∙ stands
+
+module _ (l : List ℕ) (v : View) (t level : ℕ) (w : Walk) (xs : List ℕ) where
+  length-node : length (noteAt l v t level w xs) ≡ length xs
+  unfolding noteAt noteIn
+  length-node = go (kept (broken v w level (readHeader l (placeOf v (w .place)))))
+    where
+      go : (b : Bool) → length (cond b (noteAll l t (placeOf v (w .place) + entryAt (v .shape) 0) (readHeader l (placeOf v (w .place)) .intervals) xs) xs) ≡ length xs
+      go true = length-all l t _ _ xs
+      go false = refl
+
+  node-at : (q : ℕ) → length xs ≡ 4096 → q < 4096 → getD (noteAt l v t level w xs) q 0 ≡ lookAt l v q t level w (getD xs q 0)
+  unfolding noteAt noteIn lookAt lookIn
+  node-at q long h = go (kept (broken v w level (readHeader l (placeOf v (w .place)))))
+    where
+      at : ℕ
+      at = placeOf v (w .place) + entryAt (v .shape) 0
+
+      n : ℕ
+      n = readHeader l (placeOf v (w .place)) .intervals
+
+      go : (b : Bool) → getD (cond b (noteAll l t at n xs) xs) q 0 ≡ cond b (look l q t at n (getD xs q 0)) (getD xs q 0)
+      go true = all-at l q t at n xs long h
+      go false = refl
+
+-- ---- the walk
+
+module _ (l : List ℕ) (v : View) (t : ℕ) where
+  pub from-stop : (n : ℕ) (w : Walk) (xs : List ℕ) → w .go ≡ false → xs ≡ foundFrom l v t n w xs
+  unfolding foundFrom
+  from-stop zero w xs e = refl
+  from-stop (suc n) w xs e = sym (ap (λ (b : Bool). cond b (foundFrom l v t n (step l v t n w) (noteAt l v t n w xs)) xs) e)
+
+  pub from-none : (n : ℕ) (w : Walk) (xs : List ℕ) → n ≡ 0 → xs ≡ foundFrom l v t n w xs
+  unfolding foundFrom
+  from-none n w xs e = rw e
+
+  pub from-turn : (n : ℕ) (w r : Walk) (xs ys : List ℕ) → 0 < n → w .go ≡ true → r ≡ step l v t (n - 1) w → ys ≡ noteAt l v t (n - 1) w xs → foundFrom l v t n w xs ≡ foundFrom l v t (n - 1) r ys
+  unfolding foundFrom
+  from-turn n w r xs ys z g p h =
+      let e : n ≡ suc (n - 1) = omega arith in
+      ap (λ (k : ℕ). foundFrom l v t k w xs) e
+      ∙ ap (λ (b : Bool). cond b (foundFrom l v t (n - 1) (step l v t (n - 1) w) (noteAt l v t (n - 1) w xs)) xs) g
+      ∙ ap (λ (x : Walk). foundFrom l v t (n - 1) x (noteAt l v t (n - 1) w xs)) (sym p)
+      ∙ ap (λ (x : List ℕ). foundFrom l v t (n - 1) r x) (sym h)
+
+  pub from-root : (w : Walk) (xs : List ℕ) → w ≡ rootOf v → foundAll l v t xs ≡ foundFrom l v t (v .level + 1) w xs
+  unfolding foundAll
+  from-root w xs e = ap (λ (x : Walk). foundFrom l v t (v .level + 1) x xs) (sym e)
+
+  -- the table says of each quark what a single's walk finds
+  pub found-all-at : (q n : ℕ) (w : Walk) (xs : List ℕ) → length xs ≡ 4096 → q < 4096 → getD (foundFrom l v t n w xs) q 0 ≡ found l v q t n w (getD xs q 0)
+  unfolding foundFrom found
+  found-all-at q zero w xs long h = refl
+  found-all-at q (suc n) w xs long h =
+      go (w .go)
+      (found-all-at q n (step l v t n w) (noteAt l v t n w xs) (length-node l v t n w xs ∙ long) h ∙ ap (λ (s : ℕ). found l v q t n (step l v t n w) s) (node-at l v t n w xs q long h))
+    where
+      go : (b : Bool) → getD (foundFrom l v t n (step l v t n w) (noteAt l v t n w xs)) q 0 ≡ found l v q t n (step l v t n w) (lookAt l v q t n w (getD xs q 0))
+          → getD (cond b (foundFrom l v t n (step l v t n w) (noteAt l v t n w xs)) xs) q 0 ≡ cond b (found l v q t n (step l v t n w) (lookAt l v q t n w (getD xs q 0))) (getD xs q 0)
+      go true e = e
+      go false e = refl
+
+-- ---- the ongoing states
+
+module _ (q start t : ℕ) (xs : List ℕ) where
+  pub begun-yes : start ≤ t → set xs q ongoing ≡ begun q start t xs
+  unfolding begun
+  begun-yes h = rw (le-leb start t h)
+
+  pub begun-no : t < start → xs ≡ begun q start t xs
+  unfolding begun
+  begun-no h = rw (lt-leb start t h)
+
+  length-begun : length (begun q start t xs) ≡ length xs
+  unfolding begun
+  length-begun = go (leb start t)
+    where
+      go : (b : Bool) → length (cond b (set xs q ongoing) xs) ≡ length xs
+      go true = simp length-set
+      go false = refl
+
+  -- of q, and of any other
+  begun-same : q < length xs → getD (begun q start t xs) q 0 ≡ cond (leb start t) ongoing (getD xs q 0)
+  unfolding begun
+  begun-same h = go (leb start t)
+    where
+      go : (b : Bool) → getD (cond b (set xs q ongoing) xs) q 0 ≡ cond b ongoing (getD xs q 0)
+      go true = getD-set-same xs q ongoing 0 h
+      go false = refl
+
+  begun-other : (k : ℕ) → (k ≡ q → ⊥) → getD (begun q start t xs) k 0 ≡ getD xs k 0
+  unfolding begun
+  begun-other k h = go (leb start t)
+    where
+      go : (b : Bool) → getD (cond b (set xs q ongoing) xs) k 0 ≡ getD xs k 0
+      go true = getD-set-other xs q k ongoing 0 h
+      go false = refl
+
+module _ (table : List ℕ) (t : ℕ) where
+  pub begun-turn : (q n : ℕ) (o : Ongoing) (xs ys : List ℕ) → o ≡ ongoingAt table q → ys ≡ begun q (o .start) t xs → q < n → begunFrom table t q (n - q) xs ≡ begunFrom table t (q + 1) (n - (q + 1)) ys
+  unfolding begunFrom
+  begun-turn q n o xs ys reads gives lt =
+      let z : n - q ≡ suc (n - (q + 1)) = omega arith in
+      let y : begun q (ongoingAt table q .start) t xs ≡ ys = ap (λ (x : Ongoing). begun q (x .start) t xs) (sym reads) ∙ sym gives in
+      ap (λ (k : ℕ). begunFrom table t q k xs) z ∙ ap (λ (x : List ℕ). begunFrom table t (q + 1) (n - (q + 1)) x) y
+
+  pub begun-done : (q n : ℕ) (xs : List ℕ) → n ≤ q → begunFrom table t q (n - q) xs ≡ xs
+  unfolding begunFrom
+  begun-done q n xs le = let z : n - q ≡ 0 = omega arith in ap (λ (k : ℕ). begunFrom table t q k xs) z
+
+  pub length-from : (q n : ℕ) (xs : List ℕ) → length (begunFrom table t q n xs) ≡ length xs
+  unfolding begunFrom
+  length-from q zero xs = refl
+  length-from q (suc n) xs = length-from (q + 1) n (begun q (ongoingAt table q .start) t xs) ∙ length-begun q (ongoingAt table q .start) t xs
+
+  before : (q n k : ℕ) (xs : List ℕ) → k < q → getD (begunFrom table t q n xs) k 0 ≡ getD xs k 0
+  unfolding begunFrom
+  before q zero k xs h = refl
+  before q (suc n) k xs h = before (q + 1) n k (begun q (ongoingAt table q .start) t xs) (omega arith) ∙ begun-other q (ongoingAt table q .start) t xs k (λ z. omega arith)
+
+  pub begun-at : (q n k : ℕ) (xs : List ℕ) → q + n ≤ length xs → q ≤ k → k < q + n → getD (begunFrom table t q n xs) k 0 ≡ cond (leb (ongoingAt table k .start) t) ongoing (getD xs k 0)
+  unfolding begunFrom
+  begun-at q zero k xs long le lt = absurd (omega arith)
+  begun-at q (suc n) k xs long le lt =
+      go (eqb q k) refl
+      (λ (a : q + 1 ≤ k). begun-at (q + 1) n k (begun q (ongoingAt table q .start) t xs) (omega (arith, length-begun q (ongoingAt table q .start) t xs)) a (omega arith))
+    where
+      ys : List ℕ
+      ys = begun q (ongoingAt table q .start) t xs
+
+      same : getD ys q 0 ≡ cond (leb (ongoingAt table q .start) t) ongoing (getD xs q 0)
+      same = begun-same q (ongoingAt table q .start) t xs (omega arith)
+
+      go : (b : Bool) → eqb q k ≡ b → (q + 1 ≤ k → getD (begunFrom table t (q + 1) n ys) k 0 ≡ cond (leb (ongoingAt table k .start) t) ongoing (getD ys k 0))
+          → getD (begunFrom table t (q + 1) n ys) k 0 ≡ cond (leb (ongoingAt table k .start) t) ongoing (getD xs k 0)
+      go true e f =
+          subst (λ (j : ℕ). getD (begunFrom table t (q + 1) n ys) j 0 ≡ cond (leb (ongoingAt table j .start) t) ongoing (getD xs j 0)) (eqb-true q k e)
+          (before (q + 1) n q ys (omega arith) ∙ same)
+      go false e f =
+          let ne : q ≡ k → ⊥ = eqb-false q k e in
+          f (omega arith) ∙ ap (λ (s : ℕ). cond (leb (ongoingAt table k .start) t) ongoing s) (begun-other q (ongoingAt table q .start) t xs k (λ z. ne (sym z)))

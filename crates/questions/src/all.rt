@@ -1,0 +1,231 @@
+// The full question: all attributes' states at t, in one walk.
+use crate::Full;
+use crate::Rule;
+use crate::View;
+use crate::Walk;
+use crate::known;
+use crate::one;
+use crate::rules;
+use crate::steps;
+use layout::Entry;
+use layout::Header;
+use layout::Quark;
+use record::History;
+use record::Refusal;
+ghost use mathlib.Core.Path.{_≡_};
+ghost use mathlib.Core.Bool.{true, false};
+ghost use Prim.Native.Nat.{ℕ, _+_, _*_, _/_, _≤_, _<_};
+ghost use lib.ListN.{length, getD};
+ghost use lib.Seq.{sets};
+ghost use Rattle.layout.specs.Layout.{entrySize};
+ghost use Rattle.questions.specs.View.{Roomy};
+ghost use Rattle.questions.specs.Walk.{allSound, step, walkOf};
+ghost use Rattle.questions.specs.Found.{shown};
+ghost use Rattle.questions.specs.Single.{entryFine};
+ghost use Rattle.questions.specs.Full.{everyQuark, refusedFull, walkedFull, walkedWritten, fullOf, fullWritten};
+ghost use Rattle.questions.specs.Table.{note, noteAll, noteAt, foundAll, begun, allBegun, entryFor, entriesFrom, Readable};
+
+// What was found for each quark: 0 nothing, p + 1 the one entry at byte p, ONGOING its ongoing state, one::MANY more than one.
+const ONGOING: u32 = 0xffff_fffe;
+
+fn refused(r: Refusal) -> Full
+    ensures { λ r₁. ⌜ r₁ ≡ refusedFull r ⌝ }
+{
+    Full {
+        refusal: r,
+        nodes: 0,
+    }
+}
+
+// An entry at byte p that covers t is noted for its quark.
+fn note(found: &mut [u32; 4096], t: u64, p: usize, e: Entry)
+    requires { ⌜ p + entrySize ≤ 4294967296 ⌝ }
+    ensures { λ _. ⌜ now (found .exit) ≡ note t p e (now (found .entry)) ⌝ }
+{
+    if (e.quark.0 < 4096) & rules::covers(t, e) {
+        let q = e.quark.0 as usize;
+        found[q] = one::more(found[q], p);
+    }
+}
+
+// Each of a node's entries is read once, for R6 and for its quark.
+fn look(
+    nodes: &[u8],
+    attributes: u32,
+    h: Header,
+    t: u64,
+    at: usize,
+    n: u32,
+    found: &mut [u32; 4096],
+) -> bool
+    requires { ⌜ (at + entrySize * n ≤ length (now nodes)) × (at + entrySize * n ≤ 4294967296) ⌝ }
+    ensures { λ r. ⌜ (r ≡ allSound (now (nodes .entry)) attributes h at n true) × (now (found .exit) ≡ noteAll (now (nodes .entry)) t at n (now (found .entry))) ⌝ }
+{
+    let mut sound = true;
+    let mut i: u32 = 0;
+    let mut p = at;
+    while i < n {
+        let e = layout::read_entry(nodes, p);
+        sound = sound & rules::entry_sound(attributes, h, e);
+        note(found, t, p, e);
+        p += layout::ENTRY;
+        i += 1;
+    }
+    sound
+}
+
+// Enters the node at which the walk stands, of which a level is due.
+fn enter(nodes: &[u8], v: View, t: u64, level: u32, w: Walk, found: &mut [u32; 4096]) -> Walk
+    requires { ⌜ Roomy v (now nodes) × (w .place .0 < v .used) × (w .entered < 65536) ⌝ }
+    ensures { λ r. ⌜ (r ≡ step (now (nodes .entry)) v t level w) × (now (found .exit) ≡ noteAt (now (nodes .entry)) v t level w (now (found .entry))) ⌝ }
+{
+    let at = record::sound::stands_at(w.place.0, v.shape);
+    let h = layout::read_header(nodes, at);
+    let rule = rules::broken(v, w, level, h);
+    if !rules::kept(rule) {
+        return steps::ended(w, rule, w.place);
+    }
+    let first = at + layout::entry_at(v.shape, 0);
+    if !look(nodes, v.attributes, h, t, first, h.intervals as u32, found) {
+        return steps::ended(w, Rule::R6, w.place);
+    }
+    steps::descend(nodes, v, t, h, at, w)
+}
+
+fn walk_all(nodes: &[u8], v: View, t: u64, found: &mut [u32; 4096]) -> Walk
+    requires { ⌜ Roomy v (now nodes) ⌝ }
+    ensures { λ r. ⌜ (r ≡ walkOf (now (nodes .entry)) v t) × (now (found .exit) ≡ foundAll (now (nodes .entry)) v t (now (found .entry))) ⌝ }
+{
+    let mut w = steps::root(v);
+    let mut n = v.level + 1;
+    while 0 < n {
+        if !w.go {
+            return w;
+        }
+        n -= 1;
+        w = enter(nodes, v, t, n, w, found);
+    }
+    w
+}
+
+// An ongoing state that starts at or below t is noted.
+fn begin(found: &mut [u32; 4096], q: u32, start: u64, t: u64)
+    requires { ⌜ q < 4096 ⌝ }
+    ensures { λ _. ⌜ now (found .exit) ≡ begun q start t (now (found .entry)) ⌝ }
+{
+    if start <= t {
+        let i = q as usize;
+        found[i] = ONGOING;
+    }
+}
+
+// The ongoing entries are tested, and those that start at or below t noted; once finished none is read.
+fn note_ongoing(table: &[u8], v: View, t: u64, found: &mut [u32; 4096]) -> bool
+    requires { ⌜ (v .attributes ≤ 4096) × (v .finished ≡ false → v .attributes ≤ length (now table) / entrySize) ⌝ }
+    ensures { λ r. ⌜ (r ≡ everyQuark (λ q. entryFine v q (now (table .entry))) (v .attributes)) × (r ≡ true → now (found .exit) ≡ allBegun v t (now (table .entry)) (now (found .entry))) ⌝ }
+{
+    if v.finished {
+        return true;
+    }
+    let mut q: u32 = 0;
+    while q < v.attributes {
+        let o = transient::read_ongoing(table, Quark(q));
+        if !transient::ongoing_sound(o, v.start, v.latest) {
+            return false;
+        }
+        begin(found, q, o.start, t);
+        q += 1;
+    }
+    true
+}
+
+// R7 of the first n quarks.
+fn all_one(found: &[u32; 4096], n: u32) -> bool
+    requires { ⌜ n ≤ 4096 ⌝ }
+    ensures { λ r. ⌜ r ≡ everyQuark (λ q. shown (getD (now (found .entry)) q 0)) n ⌝ }
+{
+    let mut i: u32 = 0;
+    while i < n {
+        let q = i as usize;
+        if !one::one(found[q]) {
+            return false;
+        }
+        i += 1;
+    }
+    true
+}
+
+// What answers for a quark: its ongoing state, or the entry that was found.
+fn entry_for(nodes: &[u8], table: &[u8], q: u32, s: u32) -> Entry
+    requires { ⌜ Readable (now nodes) (now table) q s ⌝ }
+    ensures { λ r. ⌜ r ≡ entryFor (now (nodes .entry)) (now (table .entry)) q s ⌝ }
+{
+    if s == ONGOING {
+        let o = transient::read_ongoing(table, Quark(q));
+        return transient::ongoing_entry(Quark(q), o, 0xffff_ffff_ffff_ffff);
+    }
+    layout::read_entry(nodes, (s - 1) as usize)
+}
+
+fn write_entries(
+    nodes: &[u8],
+    table: &[u8],
+    found: &[u32; 4096],
+    answer: &mut [u8],
+    at: usize,
+    n: u32,
+)
+    requires { ⌜ (n ≤ 4096) × (at + entrySize * n ≤ length (now answer)) × ((q : ℕ) → q < n → Readable (now nodes) (now table) q (getD (now found) q 0)) ⌝ }
+    ensures { λ _. ⌜ now (answer .exit) ≡ sets (now (answer .entry)) at (entriesFrom (now (nodes .entry)) (now (table .entry)) (now (found .entry)) 0 n) ⌝ }
+{
+    let mut i: u32 = 0;
+    let mut p = at;
+    while i < n {
+        let q = i as usize;
+        let e = entry_for(nodes, table, i, found[q]);
+        layout::put_entry(answer, p, e);
+        p += layout::ENTRY;
+        i += 1;
+    }
+}
+
+// The ongoing entries, one walk for all attributes, R7; then, and only then, the entries are written, from index at of the answer on.
+pub fn walked(v: View, t: u64, nodes: &[u8], table: &[u8], answer: &mut [u8], at: usize) -> Full
+    requires { ⌜ Roomy v (now nodes) × (v .finished ≡ false → v .attributes ≤ length (now table) / entrySize) × (at + entrySize * v .attributes ≤ length (now answer)) ⌝ }
+    ensures { λ r. ⌜ (r ≡ walkedFull v t (now (nodes .entry)) (now (table .entry))) × (now (answer .exit) ≡ walkedWritten v t (now (nodes .entry)) (now (table .entry)) at (now (answer .entry))) ⌝ }
+{
+    let mut found = [0u32; 4096];
+    if !note_ongoing(table, v, t, &mut found) {
+        return refused(Refusal::Damaged);
+    }
+    let w = walk_all(nodes, v, t, &mut found);
+    let rule = w.rule;
+    if !rules::kept(rule) {
+        return refused(Refusal::Damaged);
+    }
+    if !all_one(&found, v.attributes) {
+        return refused(Refusal::Damaged);
+    }
+    write_entries(nodes, table, &found, answer, at, v.attributes);
+    Full {
+        refusal: Refusal::Nothing,
+        nodes: w.entered,
+    }
+}
+
+pub fn full(h: History, t: u64, nodes: &[u8], table: &[u8], answer: &mut [u8]) -> Full
+    ensures { λ r. ⌜ (r ≡ fullOf h t (now (nodes .entry)) (now (table .entry)) (length (now (answer .entry)))) × (now (answer .exit) ≡ fullWritten h t (now (nodes .entry)) (now (table .entry)) (now (answer .entry))) ⌝ }
+{
+    if !record::sound::sound(h) {
+        return refused(Refusal::Damaged);
+    }
+    let v = known::view_of(h);
+    let long = known::long_for(v, nodes.len(), table.len());
+    if !long | (answer.len() / layout::ENTRY < v.attributes as usize) {
+        return refused(Refusal::Short);
+    }
+    if !known::asked(v, t) {
+        return refused(Refusal::Outside);
+    }
+    walked(v, t, nodes, table, answer, 0)
+}
