@@ -1,0 +1,4 @@
+pub mod Payloads
+pub mod Places
+pub mod Written
+pub mod Examples
