@@ -1,0 +1,14 @@
+pub mod Computing
+pub mod Examples
+pub mod Settled
+pub mod Exactly
+pub mod Kept
+pub mod Premises
+pub mod Standing
+pub mod Mirrored
+pub mod Answers
+pub mod Closed
+pub mod Ran
+pub mod Exported
+pub mod Feeds
+pub mod Demands

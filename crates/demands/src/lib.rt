@@ -1,0 +1,1 @@
+// The final theorems and the examples: no code. specs/ has the statements, proofs/ the proofs.
