@@ -1,0 +1,116 @@
+-- One call of the script: what is said to it, and each way through it. Assumes nothing.
+use Prim.Native.Nat.{ℕ, _+_}
+use mathlib.Core.Path.{_≡_, refl, sym, ap, _∙_}
+use mathlib.Core.Bool.{Bool, true, false, cond}
+use mathlib.Core.List.{List, _++_}
+use native.Mathlib.Omega.{arith}
+use lib.Dec.{eqb}
+use lib.IntN.{ℤ}
+use lib.ListN.{length}
+use lib.Seq.{sets}
+use borrow.Author.Tests.{eq-eqb, ne-eqb}
+use Rattle.words.specs.Words.{le}
+use Rattle.words.proofs.Stores.{sets-append}
+use Rattle.words.proofs.Numbers.{length-le}
+use Rattle.layout.specs.declared.Entry.{Entry}
+use Rattle.layout.specs.Layout.{entryBytes}
+use Rattle.record.specs.declared.History.{History}
+use Rattle.record.specs.declared.Refusal.{Refusal}
+use Rattle.record.specs.Refusals.{numberOf}
+use Rattle.transient.specs.declared.Change.the-variants.{Set, Remove, Increment}
+use Rattle.calls.specs.declared.Answer.{Answer}
+use Rattle.calls.specs.Outcome.{Outcome, Comes}
+use Rattle.calls.specs.Change.{changeOf}
+use Rattle.calls.specs.Add.{addOf}
+use Rattle.calls.specs.Finish.{finishOf}
+use Rattle.questions.specs.declared.Single.{Single}
+use Rattle.questions.specs.declared.Full.{Full}
+use Rattle.questions.specs.Single.{singleOf}
+use Rattle.questions.specs.Full.{fullOf, fullWritten}
+use Rattle.measure.specs.Measure.{slot, callOf, State, state, asksOne, asksAll, calls, stepOf}
+
+-- ---- what is said
+
+pub slot-put : (l l₁ l₂ l₃ : List ℕ) (at : ℕ) (r : Refusal) (v nodes : ℕ) (e : Entry)
+    → v ≡ numberOf r
+    → l₁ ≡ sets l at (le 4 v)
+    → l₂ ≡ sets l₁ (at + 4) (le 4 nodes)
+    → l₃ ≡ sets l₂ (at + 8) (entryBytes e)
+    → l₃ ≡ sets l at (slot r nodes e)
+unfolding slot
+slot-put l l₁ l₂ l₃ at r v nodes e n p₁ p₂ p₃ =
+    let i : at + 4 + 4 ≡ at + 8 = omega arith in
+    let d : sets l at (le 4 (numberOf r) ++ (le 4 nodes ++ entryBytes e)) ≡ sets (sets (sets l at (le 4 (numberOf r))) (at + 4) (le 4 nodes)) (at + 8) (entryBytes e) = simp (sets-append, length-le, i) in
+    cc (d, n)
+
+-- ---- which call
+
+module _ (h : History) (e : Entry) (nodes table : List ℕ) (a : Answer) (left rows : List ℕ) where
+  pub is-set : e .kind ≡ 0 → (z : ℤ) → z ≡ e .value → Comes a left rows (changeOf h (e .start) (e .quark) (Set z) nodes table) → Comes a left rows (callOf h e nodes table)
+  unfolding callOf
+  is-set k z b y = rw (eq-eqb (e .kind) 0 k) (y ∙ ap (λ (v : ℤ). changeOf h (e .start) (e .quark) (Set v) nodes table) b)
+
+  module _ (n₀ : e .kind ≡ 0 → ⊥) where
+    pub is-remove : e .kind ≡ 1 → Comes a left rows (changeOf h (e .start) (e .quark) Remove nodes table) → Comes a left rows (callOf h e nodes table)
+    unfolding callOf
+    is-remove k y = rw (ne-eqb (e .kind) 0 n₀, eq-eqb (e .kind) 1 k) y
+
+    module _ (n₁ : e .kind ≡ 1 → ⊥) where
+      pub is-increment : e .kind ≡ 2 → Comes a left rows (changeOf h (e .start) (e .quark) Increment nodes table) → Comes a left rows (callOf h e nodes table)
+      unfolding callOf
+      is-increment k y = rw (ne-eqb (e .kind) 0 n₀, ne-eqb (e .kind) 1 n₁, eq-eqb (e .kind) 2 k) y
+
+      module _ (n₂ : e .kind ≡ 2 → ⊥) where
+        pub is-add : e .kind ≡ 3 → Comes a left rows (addOf h nodes table) → Comes a left rows (callOf h e nodes table)
+        unfolding callOf
+        is-add k y = rw (ne-eqb (e .kind) 0 n₀, ne-eqb (e .kind) 1 n₁, ne-eqb (e .kind) 2 n₂, eq-eqb (e .kind) 3 k) y
+
+        pub is-finish : (e .kind ≡ 3 → ⊥) → Comes a left rows (finishOf h (e .start) nodes table) → Comes a left rows (callOf h e nodes table)
+        unfolding callOf
+        is-finish n₃ y = rw (ne-eqb (e .kind) 0 n₀, ne-eqb (e .kind) 1 n₁, ne-eqb (e .kind) 2 n₂, ne-eqb (e .kind) 3 n₃) y
+
+-- ---- one step
+
+module _ (e : Entry) (at : ℕ) (h : History) (nodes table answer said l : List ℕ) where
+  abbrev before : State
+  before = state h nodes table answer said
+
+  -- which of the three it is
+  chosen : (b c : Bool) → eqb (e .kind) 6 ≡ b → eqb (e .kind) 7 ≡ c → cond b (asksOne e at before) (cond c (asksAll e at before) (calls e at before)) ≡ stepOf e at before
+  unfolding stepOf
+  chosen b c p q = rw (p, q)
+
+  pub one-asked : e .kind ≡ 6 → (x : Single) → x ≡ singleOf h (e .start) (e .quark) nodes table → l ≡ sets said at (slot (x .refusal) (x .nodes) (x .entry))
+      → state h nodes table answer l ≡ stepOf e at before
+  unfolding asksOne
+  one-asked k x is w =
+      ap (state h nodes table answer) (w ∙ ap (λ (y : Single). sets said at (slot (y .refusal) (y .nodes) (y .entry))) is)
+      ∙ chosen true (eqb (e .kind) 7) (eq-eqb (e .kind) 6 k) refl
+
+  module _ (n₆ : e .kind ≡ 6 → ⊥) where
+    pub all-asked : e .kind ≡ 7 → (x : Full) (b : List ℕ) → x ≡ fullOf h (e .start) nodes table (length answer) → b ≡ fullWritten h (e .start) nodes table answer
+        → l ≡ sets said at (slot (x .refusal) (x .nodes) e) → state h nodes table b l ≡ stepOf e at before
+    unfolding asksAll
+    all-asked k x b is to w =
+        ap (state h nodes table b) (w ∙ ap (λ (y : Full). sets said at (slot (y .refusal) (y .nodes) e)) is)
+        ∙ ap (λ (y : List ℕ). state h nodes table y (sets said at (slot (fullOf h (e .start) nodes table (length answer) .refusal) (fullOf h (e .start) nodes table (length answer) .nodes) e))) to
+        ∙ chosen false true (ne-eqb (e .kind) 6 n₆) (eq-eqb (e .kind) 7 k)
+
+    module _ (n₇ : e .kind ≡ 7 → ⊥) (a : Answer) (left rows : List ℕ) (y : Comes a left rows (callOf h e nodes table)) (w : l ≡ sets said at (slot (a .refusal) 0 e)) where
+      abbrev after : Bool → Outcome → State
+      after b o = state (cond b h (o .answer .history)) (o .nodes) (o .table) answer (sets said at (slot (o .answer .refusal) 0 e))
+
+      called : (b : Bool) → eqb (e .kind) 5 ≡ b → state (cond b h (a .history)) left rows answer l ≡ stepOf e at before
+      unfolding calls
+      called b p =
+          ap (state (cond b h (a .history)) left rows answer) w
+          ∙ ap (after b) y
+          ∙ ap (λ (x : Bool). after x (callOf h e nodes table)) (sym p)
+          ∙ chosen false false (ne-eqb (e .kind) 6 n₆) (ne-eqb (e .kind) 7 n₇)
+
+      -- a finish from which the script goes back
+      pub called-back : e .kind ≡ 5 → state h left rows answer l ≡ stepOf e at before
+      called-back k = called true (eq-eqb (e .kind) 5 k)
+
+      pub called-on : (e .kind ≡ 5 → ⊥) → state (a .history) left rows answer l ≡ stepOf e at before
+      called-on n₅ = called false (ne-eqb (e .kind) 5 n₅)

@@ -1,0 +1,153 @@
+//! The library beside plain Rust on the same work, and beside what a lab would use instead.
+//!
+//!   bench compare     only compares: every answer and every byte, no time is taken
+//!   bench             compares, then prints the tables
+
+mod baseline;
+mod comb;
+mod instead;
+mod lab;
+#[path = "../seeded.rs"]
+#[allow(dead_code)]
+mod seeded;
+mod sides;
+mod work;
+
+use seeded::{seed, Seeded};
+use sides::*;
+use work::*;
+
+/// What is made and timed: a table's line.
+struct Line {
+    name: String,
+    work: Work,
+}
+
+fn line(name: &str, work: Work) -> Line {
+    Line { name: name.to_string(), work }
+}
+
+/// A change that stores nothing: every attribute was set at this instant, and is set again.
+fn no_store(seeded: &mut Seeded, count: u32) -> Work {
+    let mut work = Work::new(32, 100, 50, 100).changes(seeded, 2_000);
+    work.latest += 1;
+    for quark in 0..32 {
+        work.push(SET, work.latest, quark, -1);
+    }
+    let mut work = work.is_built();
+    for i in 0..count {
+        // Half of them replace the value, half find it as it is.
+        work.push(SET, work.latest, i / 2 % 32, (i / 64) as i64);
+    }
+    work
+}
+
+/// Each change ends an interval.
+fn stores(attributes: u32, k: u32, n: u32, count: u32) -> Work {
+    let mut work = Work::new(attributes, k, 50, n).is_built();
+    for i in 0..count {
+        work.latest += 1;
+        work.push(SET, work.latest, i % attributes, i as i64);
+    }
+    work
+}
+
+fn finishes(attributes: u32, count: usize) -> Work {
+    let mut work = Work::new(attributes, 2028, 50, 64).is_built();
+    for _ in 0..count {
+        work.push(FINISH_AGAIN, 5_000, 0, 0);
+    }
+    work
+}
+
+/// The latest instant is asked of a history that goes on: no node is entered.
+fn ongoing(seeded: &mut Seeded, count: u32) -> Work {
+    let mut work = Work::new(32, 100, 50, 100).changes(seeded, 2_000).is_built();
+    for i in 0..count {
+        work.push(SINGLE, work.latest, i % 32, 0);
+    }
+    work
+}
+
+/// A finished history with room for its nodes.
+fn finished(seeded: &mut Seeded, attributes: u32, k: u32, c: u32, changes: u32) -> Work {
+    let n = (2 * changes / k + 64).min(65_536);
+    Work::new(attributes, k, c, n).changes(seeded, changes as usize).finish().is_built()
+}
+
+/// The calls and the questions that are named; `scale` is how many calls of each.
+fn calls_and_questions(seeded: &mut Seeded, scale: u32) -> Vec<Line> {
+    let mut lines = vec![
+        line("open, 4,096 attributes", Work::new(4096, 2028, 50, 64)),
+        line("change, nothing stored", no_store(seeded, 100 * scale)),
+        line("change, an interval stored", stores(32, 2028, 128, 100 * scale)),
+        line("change, stored with a close", stores(1, 1, 65_536, 5 * scale)),
+        line("finish, 4,096 attributes", finishes(4096, (scale / 100 + 1) as usize)),
+        line("single, from the ongoing table", ongoing(seeded, 50 * scale)),
+    ];
+    for (k, attributes, changes) in [(100, 32, 50 * scale), (1_000, 256, 100 * scale), (2_028, 256, 100 * scale)] {
+        let count = (8 * scale / (k / 100)) as usize;
+        let of = format!("K {}, {} attributes", k, attributes);
+        lines.push(line(&format!("single, {}", of), finished(seeded, attributes, k, 50, changes).singles(seeded, count)));
+        lines.push(line(&format!("full, {}", of), finished(seeded, attributes, k, 50, changes).fulls(seeded, count / 2 + 1)));
+    }
+    lines
+}
+
+/// How cost grows: one thing is changed from line to line.
+fn growing(seeded: &mut Seeded, scale: u32) -> Vec<(&'static str, Vec<Line>)> {
+    let mut depth = Vec::new();
+    for changes in [20, 200, 2_000, 20_000] {
+        let work = finished(seeded, 4, 16, 2, changes);
+        let mut lent = Lent::new(&work);
+        let levels = played(&work, work.built, &mut lent).map_or(0, |history| history.top + 1);
+        let name = format!("single, {} levels, K 16", levels);
+        depth.push(line(&name, work.singles(seeded, 10 * scale as usize)));
+    }
+    let mut nodes = Vec::new();
+    for k in [50, 100, 200, 500, 1_000, 2_028] {
+        let name = format!("single, K {}, 16 attributes", k);
+        nodes.push(line(&name, finished(seeded, 16, k, 50, 40 * scale).singles(seeded, (2 * scale / (k / 50)) as usize)));
+    }
+    let mut attributes = Vec::new();
+    for count in [1, 16, 256, 1_024] {
+        let name = format!("full, {} attributes, K 2,028", count);
+        attributes.push(line(&name, finished(seeded, count, 2_028, 50, 40 * scale).fulls(seeded, (scale / 10 + 1) as usize)));
+    }
+    for count in [1, 16, 256, 4_096] {
+        let name = format!("finish, {} attributes, K 2,028", count);
+        attributes.push(line(&name, finishes(count, (scale * 40 / (count + 100) + 1) as usize)));
+    }
+    vec![("with the depth", depth), ("with K", nodes), ("with the attributes", attributes)]
+}
+
+fn print(lines: &[Line], turns: usize) {
+    println!("  {:38} {:>12} {:>12} {:>8}", "nanoseconds a call", "library", "baseline", "ratio");
+    for Line { name, work } in lines {
+        let (mut ours, mut theirs) = compare(name, work);
+        let (library, baseline) = times(work, &mut ours, &mut theirs, turns);
+        let refused = (work.built..work.calls()).filter(|&call| ours.refusal(call) != 0).count();
+        let word = if refused > 0 { format!("   {} of {} refused", refused, work.calls() - work.built) } else { String::new() };
+        println!("  {:38} {:12.0} {:12.0} {:8.2}{}", name, library, baseline, library / baseline, word);
+    }
+}
+
+fn main() {
+    let mut seeded = Seeded::case(seed(), 0);
+    if std::env::args().nth(1).as_deref() == Some("compare") {
+        let mut lines = calls_and_questions(&mut seeded, 100);
+        lines.extend(growing(&mut seeded, 100).into_iter().flat_map(|(_, lines)| lines));
+        let calls: usize = lines.iter().map(|line| line.work.calls()).sum();
+        lines.iter().for_each(|line| drop(compare(&line.name, &line.work)));
+        println!("library and baseline agree on {} calls, every answer and every byte", calls);
+        return;
+    }
+    println!("\nCalls and questions: library / baseline");
+    print(&calls_and_questions(&mut seeded, 2_000), 3);
+    for (how, lines) in growing(&mut seeded, 1_000) {
+        println!("\nHow cost grows {}", how);
+        print(&lines, 3);
+    }
+    instead::print(&mut seeded);
+    comb::print(&mut seeded);
+}
