@@ -2,13 +2,14 @@
 use Prim.Native.Nat.{ℕ, suc, _+_, _-_, _≤_, _<_}
 use mathlib.Core.Path.{_≡_, refl, sym, _∙_}
 use mathlib.Core.Bool.{Bool, true, false, not}
+use mathlib.Core.List.{[]}
 use native.Mathlib.Nat.{add-zero, sub-zero}
 use native.Mathlib.Omega.{arith}
 use lib.Dec.{eqb}
 use borrow.Author.Tests.{le-leb, lt-leb, eq-eqb, ne-eqb, not-true, not-false}
 use Rattle.layout.specs.declared.Shape.{Shape}
 use Rattle.record.specs.declared.Branch.{Branch}
-use Rattle.record.specs.Levels.{placeAt, startAt}
+use Rattle.record.specs.Levels.{placeAt, startAt, counted}
 use Rattle.record.specs.Sound.{all, levelSound, apart, levelsSound, startsFall}
 
 module _ (p : ℕ → Bool) (i n : ℕ) where
@@ -61,6 +62,11 @@ module _ (b : Branch) (l n j : ℕ) (so-far : apartFrom b l n j ≡ apart b l n)
 
 -- ---- levels
 
+-- only the places are read
+pub apart-of : (b : Branch) (l n : ℕ) → apart b l n ≡ apart (counted (b .places) [] []) l n
+unfolding apart
+apart-of b l n = refl
+
 module _ (b : Branch) (s : Shape) (used low top level : ℕ) (so-far : levelsSound b s used level top ≡ levelsSound b s used low top) where
   pub levels-end : top < level → true ≡ levelsSound b s used low top
   unfolding levelsSound
@@ -72,15 +78,15 @@ module _ (b : Branch) (s : Shape) (used low top level : ℕ) (so-far : levelsSou
     level-fails n =
         sym (all-fails _ level (top + 1 - level) (top + 1 - (level + 1)) (omega arith) (simp (← one, not-true x n))) ∙ so-far
 
-    module _ (m : not x ≡ false) (y : Bool) (places : y ≡ apart b level (top - level)) where
+    module _ (m : not x ≡ false) (y : Bool) (places : y ≡ apart (counted (b .places) [] []) level (top - level)) where
       pub places-fail : not y ≡ true → false ≡ levelsSound b s used low top
       unfolding levelsSound
       places-fail n =
-          sym (all-fails _ level (top + 1 - level) (top + 1 - (level + 1)) (omega arith) (simp (← one, not-false x m, ← places, not-true y n)))
+          sym (all-fails _ level (top + 1 - level) (top + 1 - (level + 1)) (omega arith) (simp (← one, not-false x m, apart-of b level (top - level), ← places, not-true y n)))
           ∙ so-far
 
       pub levels-turn : not y ≡ false → levelsSound b s used (level + 1) top ≡ levelsSound b s used low top
       unfolding levelsSound
       levels-turn n =
-          sym (all-turn _ level (top + 1 - level) (level + 1) (top + 1 - (level + 1)) refl (omega arith) (simp (← one, not-false x m, ← places, not-false y n)))
+          sym (all-turn _ level (top + 1 - level) (level + 1) (top + 1 - (level + 1)) refl (omega arith) (simp (← one, not-false x m, apart-of b level (top - level), ← places, not-false y n)))
           ∙ so-far

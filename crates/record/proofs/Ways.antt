@@ -1,13 +1,28 @@
 -- Each way through `branch_sound`, `sound` and `admit`, from the tests and calls that lead there. Assumes nothing.
 use Prim.Native.Nat.{ℕ, _+_, _≤_, _<_}
-use mathlib.Core.Path.{_≡_}
-use mathlib.Core.Bool.{Bool, true, false, not, _&&_}
-use lib.Dec.{ltb, eqb}
+use mathlib.Core.Path.{_≡_, refl}
+use mathlib.Core.Bool.{Bool, true, false, not, _&&_, _||_}
+use lib.Dec.{leb, ltb, eqb}
 use borrow.Author.Tests.{le-leb, lt-leb, eq-eqb, ne-eqb, not-true, not-false}
+use Rattle.layout.specs.declared.Shape.{Shape}
+use Rattle.record.specs.declared.Branch.{Branch}
 use Rattle.record.specs.declared.History.{History}
 use Rattle.record.specs.declared.Refusal.the-variants.{Nothing, Damaged, Short}
-use Rattle.record.specs.Levels.{placeAt, startAt}
-use Rattle.record.specs.Sound.{shapeAllowed, numbersSound, levelsSound, startsFall, lastEndSound, branchSound, sound, longEnough, admitted}
+use Rattle.record.specs.Levels.{placeAt, startAt, lastEndAt, counted, started}
+use Rattle.record.specs.Sound.{shapeAllowed, numbersSound, levelSound, apart, levelsSound, startsFall, lastEndSound, branchSound, sound, longEnough, admitted}
+
+-- what is lent of the branch says as much as the branch
+ends-of : (h : History) → lastEndSound (h .branch) (h .low) (h .start) (h .latest) ≡ eqb (h .low) 0 || (leb (h .start) (lastEndAt (h .branch) (h .low)) && leb (lastEndAt (h .branch) (h .low)) (h .latest))
+unfolding lastEndSound
+ends-of h = refl
+
+starts-of : (b : Branch) (low top : ℕ) → startsFall b low top ≡ startsFall (started (b .starts)) low top
+unfolding startsFall
+starts-of b low top = refl
+
+levels-of : (b : Branch) (s : Shape) (used low top : ℕ) → levelsSound b s used low top ≡ levelsSound (counted (b .places) (b .intervals) (b .children)) s used low top
+unfolding levelsSound levelSound apart
+levels-of b s used low top = refl
 
 module _ (h : History) where
   pub branch-done : h .finished ≡ true → eqb (h .low) (h .top + 1) && ltb (placeAt (h .branch) (h .top)) (h .used) ≡ branchSound h
@@ -24,19 +39,19 @@ module _ (h : History) where
       unfolding branchSound
       branch-root ne = simp (going, le-leb _ _ some, ne-eqb _ _ ne)
 
-      module _ (root : startAt (h .branch) (h .top) ≡ h .start) (x : Bool) (last : x ≡ lastEndSound (h .branch) (h .low) (h .start) (h .latest)) where
+      module _ (root : startAt (h .branch) (h .top) ≡ h .start) (x : Bool) (last : x ≡ eqb (h .low) 0 || (leb (h .start) (lastEndAt (h .branch) (h .low)) && leb (lastEndAt (h .branch) (h .low)) (h .latest))) where
         pub branch-last : not x ≡ true → false ≡ branchSound h
         unfolding branchSound
-        branch-last n = simp (going, le-leb _ _ some, eq-eqb _ _ root, ← last, not-true x n)
+        branch-last n = simp (going, le-leb _ _ some, eq-eqb _ _ root, ends-of h, ← last, not-true x n)
 
-        module _ (ends : not x ≡ false) (y : Bool) (starts : y ≡ startsFall (h .branch) (h .low) (h .top)) where
+        module _ (ends : not x ≡ false) (y : Bool) (starts : y ≡ startsFall (started (h .branch .starts)) (h .low) (h .top)) where
           pub branch-starts : not y ≡ true → false ≡ branchSound h
           unfolding branchSound
-          branch-starts n = simp (going, le-leb _ _ some, eq-eqb _ _ root, ← last, not-false x ends, ← starts, not-true y n)
+          branch-starts n = simp (going, le-leb _ _ some, eq-eqb _ _ root, ends-of h, ← last, not-false x ends, starts-of (h .branch) (h .low) (h .top), ← starts, not-true y n)
 
-          pub branch-levels : not y ≡ false → (z : Bool) → z ≡ levelsSound (h .branch) (h .shape) (h .used) (h .low) (h .top) → z ≡ branchSound h
+          pub branch-levels : not y ≡ false → (z : Bool) → z ≡ levelsSound (counted (h .branch .places) (h .branch .intervals) (h .branch .children)) (h .shape) (h .used) (h .low) (h .top) → z ≡ branchSound h
           unfolding branchSound
-          branch-levels n z levels = simp (going, le-leb _ _ some, eq-eqb _ _ root, ← last, not-false x ends, ← starts, not-false y n, ← levels)
+          branch-levels n z levels = simp (going, le-leb _ _ some, eq-eqb _ _ root, ends-of h, ← last, not-false x ends, starts-of (h .branch) (h .low) (h .top), ← starts, not-false y n, levels-of (h .branch) (h .shape) (h .used) (h .low) (h .top), ← levels)
 
 pub ruleset branch-ways = (branch-done, branch-none, branch-root, branch-last, branch-starts, branch-levels)
 

@@ -1,12 +1,16 @@
 // When a record is sound, clause by clause as document 01 lists them, and when lent buffers are long enough for it.
-use crate::Branch;
 use crate::History;
 use crate::Refusal;
+use layout::Seq;
 use layout::Shape;
 ghost use mathlib.Core.Path.{_≡_};
+ghost use mathlib.Core.Bool.{_&&_, _||_};
+ghost use mathlib.Core.List.{[]};
+ghost use lib.Dec.{leb, eqb};
 ghost use Prim.Native.Nat.{_+_, _-_, _*_, _≤_, _<_};
 ghost use Rattle.layout.specs.Layout.{nodeSize};
-ghost use Rattle.record.specs.Sound.{shapeAllowed, numbersSound, levelSound, apart, levelsSound, startsFall, lastEndSound, branchSound, sound, longEnough, admitted};
+ghost use Rattle.record.specs.Sound.{shapeAllowed, numbersSound, levelSound, apart, levelsSound, startsFall, branchSound, sound, longEnough, admitted};
+ghost use Rattle.record.specs.Levels.{counted, started};
 ghost use Rattle.record.specs.Firm.{Shaped};
 
 // "Start and event times 0 to 2^63-1."
@@ -34,29 +38,43 @@ fn numbers_sound(h: History) -> bool
         & (h.used <= h.shape.n)
 }
 
+fn within(count: u16, limit: u32) -> bool
+    ensures { λ r. ⌜ r ≡ leb count limit ⌝ }
+{
+    (count as u32) <= limit
+}
+
 // "open counts within K and C, places below the used count, every open level above 0 has a child"
-fn level_sound(b: Branch, s: Shape, used: u32, level: u32) -> bool
+// The arrays are lent, not copied: every call and question begins with this test.
+fn level_sound<'a>(
+    places: [Seq; 16],
+    intervals: &'a [u16; 16],
+    children: &'a [u16; 16],
+    s: Shape,
+    used: u32,
+    level: u32,
+) -> bool
     requires { ⌜ level < 16 ⌝ }
-    ensures { λ r. ⌜ r ≡ levelSound b s used level ⌝ }
+    ensures { λ r. ⌜ r ≡ levelSound (counted places (now (intervals .entry)) (now (children .entry))) s used level ⌝ }
 {
     let i = level as usize;
-    ((b.intervals[i] as u32) <= s.k)
-        & ((b.children[i] as u32) <= s.c)
-        & (b.places[i].0 < used)
-        & ((level == 0) | (1 <= b.children[i]))
+    within(intervals[i], s.k)
+        & within(children[i], s.c)
+        & (places[i].0 < used)
+        & ((level == 0) | (1 <= children[i]))
 }
 
 // "places differ": that of a level from those of the n levels above it
-fn apart(b: Branch, level: u32, n: u32) -> bool
+fn apart(places: [Seq; 16], level: u32, n: u32) -> bool
     requires { ⌜ level + n < 16 ⌝ }
-    ensures { λ r. ⌜ r ≡ apart b level n ⌝ }
+    ensures { λ r. ⌜ r ≡ apart (counted places [] []) level n ⌝ }
 {
     let i = level as usize;
-    let place = b.places[i].0;
+    let place = places[i].0;
     let mut j: u32 = 0;
     while j < n {
         let k = (level + 1 + j) as usize;
-        if b.places[k].0 == place {
+        if places[k].0 == place {
             return false;
         }
         j += 1;
@@ -65,16 +83,24 @@ fn apart(b: Branch, level: u32, n: u32) -> bool
 }
 
 // the n open levels from level on
-fn levels_sound(b: Branch, s: Shape, used: u32, low: u32, top: u32) -> bool
+fn levels_sound<'a>(
+    places: [Seq; 16],
+    intervals: &'a [u16; 16],
+    children: &'a [u16; 16],
+    s: Shape,
+    used: u32,
+    low: u32,
+    top: u32,
+) -> bool
     requires { ⌜ (low ≤ top) × (top < 16) ⌝ }
-    ensures { λ r. ⌜ r ≡ levelsSound b s used low top ⌝ }
+    ensures { λ r. ⌜ r ≡ levelsSound (counted places (now (intervals .entry)) (now (children .entry))) s used low top ⌝ }
 {
     let mut level = low;
     while level <= top {
-        if !level_sound(b, s, used, level) {
+        if !level_sound(places, intervals, children, s, used, level) {
             return false;
         }
-        if !apart(b, level, top - level) {
+        if !apart(places, level, top - level) {
             return false;
         }
         level += 1;
@@ -83,14 +109,14 @@ fn levels_sound(b: Branch, s: Shape, used: u32, low: u32, top: u32) -> bool
 }
 
 // "starts not growing upwards": from level low up to top
-fn starts_fall(b: Branch, low: u32, top: u32) -> bool
+fn starts_fall(starts: &[u64; 16], low: u32, top: u32) -> bool
     requires { ⌜ (low ≤ top) × (top < 16) ⌝ }
-    ensures { λ r. ⌜ r ≡ startsFall b low top ⌝ }
+    ensures { λ r. ⌜ r ≡ startsFall (started (now (starts .entry))) low top ⌝ }
 {
     let mut level = low;
     while level < top {
         let i = level as usize;
-        if b.starts[i] < b.starts[i + 1] {
+        if starts[i] < starts[i + 1] {
             return false;
         }
         level += 1;
@@ -99,12 +125,10 @@ fn starts_fall(b: Branch, low: u32, top: u32) -> bool
 }
 
 // "the last-child end of an open level without open child lies in that span": only the lowest open level has no open child
-fn last_end_sound(b: Branch, low: u32, start: u64, latest: u64) -> bool
-    requires { ⌜ low < 16 ⌝ }
-    ensures { λ r. ⌜ r ≡ lastEndSound b low start latest ⌝ }
+fn last_end_sound(end: u64, low: u32, start: u64, latest: u64) -> bool
+    ensures { λ r. ⌜ r ≡ eqb low 0 || (leb start end && leb end latest) ⌝ }
 {
-    let i = low as usize;
-    (low == 0) | ((start <= b.last_ends[i]) & (b.last_ends[i] <= latest))
+    (low == 0) | ((start <= end) & (end <= latest))
 }
 
 // "open levels run unbroken up to the root (none once finished) with starts not growing upwards and the root's equal to the history's"
@@ -113,9 +137,10 @@ fn branch_sound(h: History) -> bool
     ensures { λ r. ⌜ r ≡ branchSound h ⌝ }
 {
     let b = h.branch;
+    let places = b.places;
     let top = h.top as usize;
     if h.finished {
-        return (h.low == h.top + 1) & (b.places[top].0 < h.used);
+        return (h.low == h.top + 1) & (places[top].0 < h.used);
     }
     if h.top < h.low {
         return false;
@@ -123,13 +148,22 @@ fn branch_sound(h: History) -> bool
     if b.starts[top] != h.start {
         return false;
     }
-    if !last_end_sound(b, h.low, h.start, h.latest) {
+    let low = h.low as usize;
+    if !last_end_sound(b.last_ends[low], h.low, h.start, h.latest) {
         return false;
     }
-    if !starts_fall(b, h.low, h.top) {
+    if !starts_fall(&b.starts, h.low, h.top) {
         return false;
     }
-    levels_sound(b, h.shape, h.used, h.low, h.top)
+    levels_sound(
+        places,
+        &b.intervals,
+        &b.children,
+        h.shape,
+        h.used,
+        h.low,
+        h.top,
+    )
 }
 
 pub fn sound(h: History) -> bool

@@ -1,18 +1,20 @@
 -- `record::sound::apart` meets its contract: what is left from the level reached is the whole. Assumes nothing.
 use Prim.Native.Nat.{_≤_, _-_}
 use mathlib.Core.Path.{_≡_}
+use mathlib.Core.List.{[]}
 use native.Mathlib.Omega.{arith}
 use borrow.Author.Needs.{needs}
+use Rattle.record.specs.Levels.{counted}
 use Rattle.record.specs.Sound.{apart}
 use Rattle.record.proofs.Runs.{apartFrom, apart-begin, apart-fail, apart-turn, apart-end}
 use Rattle.record.proofs.sound.apart.Statement.{statement}
 use Rattle.record.proofs.sound.apart.Tie as tie
 
 abbrev Inv-loop : tie.InvT-loop
-Inv-loop level n b i place j₀ j = (j ≤ n) × (apartFrom b level n j ≡ apart b level n)
+Inv-loop level n places i place j₀ j = (j ≤ n) × (apartFrom (counted places [] []) level n j ≡ apart (counted places [] []) level n)
 
 abbrev μ-loop : tie.MeasureT-loop
-μ-loop level n b i place j₀ j = n - j
+μ-loop level n places i place j₀ j = n - j
 
 pub apart-spec : {M : Type 1} → statement M
 apart-spec =

@@ -1,10 +1,8 @@
 -- `record::sound::last_end_sound` meets its contract: the same tests. Assumes nothing.
 use mathlib.Core.Path.{refl}
 use borrow.Author.Needs.{needs}
-use Rattle.record.specs.Sound.{lastEndSound}
 use Rattle.record.proofs.sound.last_end_sound.Statement.{statement}
 use Rattle.record.proofs.sound.last_end_sound.Tie as tie
 
 pub last-end-sound-spec : {M : Type 1} → statement M
-unfolding lastEndSound
-last-end-sound-spec = tie.close (tie.spec (λ c. search needs) (λ c. search needs) (λ c. search needs) (λ c. search needs) (λ c. refl))
+last-end-sound-spec = tie.close (tie.spec (λ c. refl))

@@ -7,4 +7,7 @@ use Rattle.record.proofs.sound.level_sound.Tie as tie
 
 pub level-sound-spec : {M : Type 1} → statement M
 unfolding levelSound
-level-sound-spec = tie.close (tie.spec (λ c. search needs) (λ c. search needs) (λ c. search needs) (λ c. search needs) (λ c. search needs) (λ c. search needs) (λ c. search needs) (λ c. search needs) (λ c. search needs) (λ c. search needs) (λ c. refl))
+level-sound-spec =
+    tie.close
+    (tie.spec (λ c. search needs) (λ c. search needs) (λ c κs. search needs) (λ c. search needs) (λ c. search needs) (λ c κs. search needs) (λ c. search needs) (λ c. search needs) (λ c. search needs) (λ c. search needs)
+    (λ c. simp (c .before .within2 .ensures, c .before .before .before .within .ensures)))
