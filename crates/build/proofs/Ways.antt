@@ -2,20 +2,41 @@
 use Prim.Native.Nat.{ℕ, zero, suc, _+_, _-_, _<_, _≤_}
 use native.Mathlib.Nat.{zero-add}
 use native.Mathlib.Omega.{arith}
-use mathlib.Core.Path.{_≡_}
-use mathlib.Core.Bool.{Bool, true, false}
-use lib.Dec.{ltb}
+use mathlib.Core.Path.{_≡_, refl, sym, ap, _∙_}
+use mathlib.Core.Bool.{Bool, true, false, cond}
+use lib.Dec.{ltb, leb}
 use borrow.Author.Tests.{le-ltb, lt-ltb, le-leb, lt-leb}
+use Rattle.layout.specs.declared.Shape.{Shape}
 use Rattle.record.specs.declared.Branch.{Branch}
 use Rattle.record.specs.declared.History.{History}
 use Rattle.record.specs.declared.Refusal.the-variants.{Nothing, Deep, NoRoom}
-use Rattle.record.specs.Levels.{startAt, lastEndAt}
+use Rattle.record.specs.Levels.{startAt, intervalsAt, childrenAt, lastEndAt}
 use Rattle.build.specs.declared.Plan.{Plan}
 use Rattle.build.specs.declared.settle.Verdict.{Verdict}
 use Rattle.build.specs.declared.settle.Verdict.the-variants.{Here, Chain, Close}
 use Rattle.build.specs.Settle.{ruled, followed, askUp, lowest, settle, needed, planRefusal}
+use Rattle.build.specs.Lent.{ruledBy, begun, lent}
 
 pub ruleset tests = (le-ltb, lt-ltb, le-leb, lt-leb)
+
+-- ═══ What is lent is all that is read ═══
+
+pub counted : (b : Branch) (sh : Shape) (s l : ℕ) (child : Bool) (last : ℕ) (v : Verdict) → v ≡ ruledBy (intervalsAt b l) (childrenAt b l) sh s l child last
+    → v ≡ ruled b sh s l child last
+unfolding ruled ruledBy
+counted b sh s l child last v e = e
+
+lent-asked : (left : ℕ) (h : History) (s l : ℕ) (child : Bool) (last n : ℕ)
+    → askUp left h s l child last n ≡ askUp left (lent (h .branch .intervals) (h .branch .children) (h .shape) (h .low) (h .top) (h .«largest_end»)) s l child last n
+unfolding askUp ruled
+lent-asked zero h s l child last n = refl
+lent-asked (suc left) h s l child last n =
+    ap (followed (ruled (h .branch) (h .shape) s l child last) l n) (lent-asked left h s (l + 1) false (h .«largest_end») (l + 1 - h .low))
+
+begun-lowest : (left : ℕ) (b : Branch) (s l : ℕ) → lowest left b s l ≡ lowest left (begun (b .starts)) s l
+unfolding lowest
+begun-lowest zero b s l = refl
+begun-lowest (suc left) b s l = ap (cond (leb (startAt b l) s) l) (begun-lowest left b s (l + 1))
 
 -- ═══ The question put to level l, with the verdict v ═══
 
@@ -38,7 +59,7 @@ module _ (h : History) (s l : ℕ) (child : Bool) (last n : ℕ) (v : Verdict) (
   unfolding askUp followed
   upward r e le ne f = let z : h .top - l ≡ suc (h .top - (l + 1)) = omega arith in simp (z, ← said, e, f)
 
-pub ruleset ways = (here, chained, new-root, upward)
+pub ruleset ways = (here, chained, counted)
 
 -- the parent is an open level too, and fewer are above it
 pub fewer : (top low l t : ℕ) → top - l ≡ t → (l ≤ top) × (top < 16) × (low ≤ l) → (l ≡ top → ⊥) → (top - (l + 1) < t) × ((l + 1 ≤ top) × (top < 16) × (low ≤ l + 1))
@@ -59,10 +80,13 @@ pub at-root : (b : Branch) (s l top a : ℕ) → lowest (top - l) b s l ≡ a �
 unfolding lowest
 at-root b s l top a inv le = let z : top - l ≡ 0 = omega arith in simp z at inv
 
-pub settled : (h : History) (s l : ℕ) (r : Plan) → l ≡ lowest (h .top - h .low) (h .branch) s (h .low)
-    → r ≡ askUp (h .top - l) h s l (ltb (h .low) l) (lastEndAt (h .branch) l) 0 → r ≡ settle h s
+pub settled : (h : History) (s l : ℕ) (r : Plan) → l ≡ lowest (h .top - h .low) (begun (h .branch .starts)) s (h .low)
+    → r ≡ askUp (h .top - l) (lent (h .branch .intervals) (h .branch .children) (h .shape) (h .low) (h .top) (h .«largest_end»)) s l (ltb (h .low) l) (lastEndAt (h .branch) l) 0
+    → r ≡ settle h s
 unfolding settle
-settled h s l r e f = rw (← e) f
+settled h s l r e f =
+    let at : lowest (h .top - h .low) (h .branch) s (h .low) ≡ l = begun-lowest (h .top - h .low) (h .branch) s (h .low) ∙ sym e in
+    rw at (f ∙ sym (lent-asked (h .top - l) h s l (ltb (h .low) l) (lastEndAt (h .branch) l) 0))
 
 -- ═══ Depth and room ═══
 

@@ -1,4 +1,5 @@
 pub mod Settle
+pub mod Lent
 pub mod Moves
 pub mod Write
 pub mod Trial

@@ -1,13 +1,13 @@
 // Where an interval goes. "To store an interval starting at s, take the lowest open node with start at or below s."
 use crate::Plan;
 use layout::Shape;
-use record::Branch;
 use record::History;
 use record::Refusal;
 ghost use mathlib.Core.Path.{_≡_};
 ghost use mathlib.Core.Bool.{true, false};
 ghost use Prim.Native.Nat.{_+_, _-_, _≤_, _<_};
-ghost use Rattle.build.specs.Settle.{ruled, askUp, lowest, settle, needed, planRefusal};
+ghost use Rattle.build.specs.Settle.{askUp, lowest, settle, needed, planRefusal};
+ghost use Rattle.build.specs.Lent.{ruledBy, begun, lent};
 
 // What rules 1 and 2 say of a node.
 pub enum Verdict {
@@ -18,29 +18,49 @@ pub enum Verdict {
 
 // "1. If it is above level 0, has no open child, and s is after its last child's end: a child is due. With fewer than C children, make a chain ..
 // With C children, close it. 2. Otherwise store in it if it has fewer than K intervals, else close it."
-fn rule(b: Branch, shape: Shape, s: u64, level: u32, child: bool, last: u64) -> Verdict
-    requires { ⌜ level < 16 ⌝ }
-    ensures { λ r. ⌜ r ≡ ruled b shape s level child last ⌝ }
+fn rule(
+    intervals: u16,
+    children: u16,
+    shape: Shape,
+    s: u64,
+    level: u32,
+    child: bool,
+    last: u64,
+) -> Verdict
+    ensures { λ r. ⌜ r ≡ ruledBy intervals children shape s level child last ⌝ }
 {
-    let i = level as usize;
     if !child & (0 < level) & (last < s) {
-        if (b.children[i] as u32) < shape.c {
+        if (children as u32) < shape.c {
             return Verdict::Chain;
         }
         return Verdict::Close;
     }
-    if (b.intervals[i] as u32) < shape.k {
+    if (intervals as u32) < shape.k {
         return Verdict::Here;
     }
     Verdict::Close
 }
 
-// "Then the same question is put again to the parent": the number of open levels left falls.
-fn ask(h: History, s: u64, level: u32, child: bool, last: u64, closes: u32) -> Plan
-    requires { ⌜ (level ≤ h .top) × (h .top < 16) × (h .low ≤ level) ⌝ }
-    ensures { λ r. ⌜ r ≡ askUp (h .top - level) h s level child last closes ⌝ }
+// "Then the same question is put again to the parent": the number of open levels left falls. Lent what it reads: a record
+// would be copied at each level.
+fn ask<'a>(
+    intervals: &'a [u16; 16],
+    children: &'a [u16; 16],
+    shape: Shape,
+    low: u32,
+    top: u32,
+    largest: u64,
+    s: u64,
+    level: u32,
+    child: bool,
+    last: u64,
+    closes: u32,
+) -> Plan
+    requires { ⌜ (level ≤ top) × (top < 16) × (low ≤ level) ⌝ }
+    ensures { λ r. ⌜ r ≡ askUp (top - level) (lent (now (intervals .entry)) (now (children .entry)) shape low top largest) s level child last closes ⌝ }
 {
-    let v = rule(h.branch, h.shape, s, level, child, last);
+    let i = level as usize;
+    let v = rule(intervals[i], children[i], shape, s, level, child, last);
     match v {
         Verdict::Here => {
             return Plan {
@@ -59,26 +79,39 @@ fn ask(h: History, s: u64, level: u32, child: bool, last: u64, closes: u32) -> P
         Verdict::Close => {}
     }
     let up = level + 1;
-    let gone = up - h.low;
-    if level == h.top {
+    let gone = up - low;
+    if level == top {
         return Plan {
             closes: gone,
             level: up,
-            chain: h.largest_end < s,
+            chain: largest < s,
         };
     }
-    ask(h, s, up, false, h.largest_end, gone)
+    let ended = largest; // "Closing gives the node .. the end S", and it is the parent's last child
+    ask(
+        intervals,
+        children,
+        shape,
+        low,
+        top,
+        largest,
+        s,
+        up,
+        false,
+        ended,
+        gone,
+    )
 }
 
 // The lowest open level with start at or below s, or the root's.
-fn seek(b: Branch, s: u64, low: u32, top: u32) -> u32
+fn seek(starts: &[u64; 16], s: u64, low: u32, top: u32) -> u32
     requires { ⌜ (low ≤ top) × (top < 16) ⌝ }
-    ensures { λ r. ⌜ (r ≡ lowest (top - low) b s low) × (low ≤ r) × (r ≤ top) ⌝ }
+    ensures { λ r. ⌜ (r ≡ lowest (top - low) (begun (now (starts .entry))) s low) × (low ≤ r) × (r ≤ top) ⌝ }
 {
     let mut level = low;
     while level < top {
         let i = level as usize;
-        if b.starts[i] <= s {
+        if starts[i] <= s {
             return level;
         }
         level += 1;
@@ -92,9 +125,22 @@ pub fn settle(h: History, s: u64) -> Plan
     ensures { λ r. ⌜ r ≡ settle h s ⌝ }
 {
     let b = h.branch;
-    let level = seek(b, s, h.low, h.top);
+    let level = seek(&b.starts, s, h.low, h.top);
     let i = level as usize;
-    ask(h, s, level, h.low < level, b.last_ends[i], 0)
+    let last = b.last_ends[i];
+    ask(
+        &b.intervals,
+        &b.children,
+        h.shape,
+        h.low,
+        h.top,
+        h.largest_end,
+        s,
+        level,
+        h.low < level,
+        last,
+        0,
+    )
 }
 
 // "Depth and room count what the rule would need": the new nodes of a plan.

@@ -4,7 +4,8 @@ use Prim.Native.Nat.{ℕ, _<_, _-_}
 use borrow.Author.Needs.{needs}
 use borrow.Fn.Kinds.{In}
 use borrow.Fn.PlainCycle.{Measures, is, falls, and}
-use Rattle.build.proofs.Ways.{ways, fewer}
+use Rattle.build.specs.Lent.{lent}
+use Rattle.build.proofs.Ways.{ways, counted, new-root, upward, fewer}
 use Rattle.build.proofs.settle.ask.Reads as ask
 use Rattle.build.proofs.settle.ask.Kinds as ask-kinds
 use Rattle.build.proofs.settle.+ask.Lts-ask as ask-lts
@@ -12,14 +13,14 @@ use Rattle.build.proofs.settle.rule.Reads as rule-reads
 use Rattle.build.proofs.settle.+ask.{statement}
 use Rattle.build.proofs.settle.+ask.Tie.{close}
 
-abbrev μ-ask : Measures 0 ask-kinds.ps ℕ
-μ-ask κs a = a .0 .top - a .1 .1 .0
+abbrev μ-ask : Measures 1 ask-kinds.ps ℕ
+μ-ask κs a = a .1 .1 .1 .1 .0 - a .1 .1 .1 .1 .1 .1 .1 .0
 
-abbrev ask-at : ℕ → In 0 ask-kinds.ps
-ask-at t = and 0 ask-kinds.ps (is 0 ask-kinds.ps μ-ask t) ask.Pre
+abbrev ask-at : ℕ → In 1 ask-kinds.ps
+ask-at t = and 1 ask-kinds.ps (is 1 ask-kinds.ps μ-ask t) ask.Pre
 
-abbrev ask-below : ℕ → In 0 ask-kinds.ps
-ask-below t = and 0 ask-kinds.ps (falls 0 ask-kinds.ps _<_ μ-ask t) ask.Pre
+abbrev ask-below : ℕ → In 1 ask-kinds.ps
+ask-below t = and 1 ask-kinds.ps (falls 1 ask-kinds.ps _<_ μ-ask t) ask.Pre
 
 abbrev claims : ℕ → ask-lts.Claims
 claims t = (rule-reads.Asked, rule-reads.Learnt, ask-below t, ask.Post)
@@ -28,6 +29,10 @@ pub +ask-spec : {M : Type 1} → statement M
 +ask-spec =
     close μ-ask λ t.
     ask-lts.spec (claims t) (ask-at t) ask.Post
+    (λ c. search needs)
+    (λ c. search needs)
+    (λ c. search needs)
+    (λ c. search needs)
     (λ c κs. search needs)
     (λ c. search needs)
     (λ c. search ways)
@@ -36,6 +41,8 @@ pub +ask-spec : {M : Type 1} → statement M
     (λ c. search needs)
     (λ c. search needs)
     (λ c. search needs)
-    (λ c. search ways)
+    (λ c. new-root (lent _ _ _ _ _ _) _ _ _ _ _ _ (counted _ _ _ _ _ _ _ (c .before .before .before .rule .ensures)) (search needs) (c .if1 .taken))
     (λ c κs. fewer _ _ _ _ (c .before .before .before .before .before .before .pre .0) (c .before .before .before .before .before .before .pre .1) (c .if1 .left))
-    (λ c. search ways)
+    (λ c.
+    let p = c .before .before .before .before .before .before .before .pre .1 in
+    upward (lent _ _ _ _ _ _) _ _ _ _ _ _ (counted _ _ _ _ _ _ _ (c .before .before .before .before .rule .ensures)) _ (search needs) (p .0) (c .before .if1 .left) (c .ask .ensures))

@@ -4,15 +4,16 @@ use mathlib.Core.Path.{_≡_, refl}
 use native.Mathlib.Omega.{arith}
 use borrow.Author.Needs.{needs}
 use Rattle.build.specs.Settle.{lowest}
+use Rattle.build.specs.Lent.{begun}
 use Rattle.build.proofs.Ways.{found, passed, at-root}
 use Rattle.build.proofs.settle.seek.Statement.{statement}
 use Rattle.build.proofs.settle.seek.Tie as tie
 
 abbrev Inv-loop : tie.InvT-loop
-Inv-loop s low top b level₀ level = (low ≤ level) × (level ≤ top) × (lowest (top - level) b s level ≡ lowest (top - low) b s low)
+Inv-loop starts s low top level₀ level = (low ≤ level) × (level ≤ top) × (lowest (top - level) (begun starts) s level ≡ lowest (top - low) (begun starts) s low)
 
 abbrev μ-loop : tie.MeasureT-loop
-μ-loop s low top b level₀ level = top - level
+μ-loop starts s low top level₀ level = top - level
 
 pub seek-spec : {M : Type 1} → statement M
 seek-spec =

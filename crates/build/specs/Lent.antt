@@ -1,0 +1,34 @@
+-- The pieces of the record that settling an interval reads, as its functions are lent them.
+use Prim.Native.Nat.{ℕ}
+use mathlib.Core.Bool.{Bool, false, cond, not, _&&_}
+use mathlib.Core.List.{List, []}
+use lib.Dec.{ltb}
+use Rattle.layout.specs.declared.Shape.{Shape}
+use Rattle.record.specs.declared.Branch.{Branch}
+use Rattle.record.specs.declared.History.{History}
+use Rattle.build.specs.declared.settle.Verdict.{Verdict}
+use Rattle.build.specs.declared.settle.Verdict.the-variants.{Here, Chain, Close}
+
+-- rules 1 and 2, of a node with so many intervals and children: `ruled` of any branch that has these counts at its level
+unfoldable pub ruledBy : ℕ → ℕ → Shape → ℕ → ℕ → Bool → ℕ → Verdict
+ruledBy intervals children sh s l child last =
+    cond (not child && ltb 0 l && ltb last s) (cond (ltb children (sh .c)) Chain Close) (cond (ltb intervals (sh .k)) Here Close)
+
+-- a branch with these starts, of which `lowest` reads no more
+abbrev pub begun : List ℕ → Branch
+begun starts = record { places = []; starts = starts; intervals = []; children = []; «last_ends» = [] }
+
+-- a record with these counts and numbers, of which `askUp` reads no more
+abbrev pub lent : List ℕ → List ℕ → Shape → ℕ → ℕ → ℕ → History
+lent intervals children shape low top largest = record {
+  shape = shape;
+  start = 0;
+  latest = 0;
+  «largest_end» = largest;
+  attributes = 0;
+  used = 0;
+  low = low;
+  top = top;
+  finished = false;
+  branch = record { places = []; starts = []; intervals = intervals; children = children; «last_ends» = [] };
+}
