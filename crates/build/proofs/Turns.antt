@@ -157,6 +157,11 @@ module _ (h : History) (b : List ℕ) (l a : ℕ) (g : History) (c : List ℕ) (
 
 -- ═══ The plan ═══
 
+-- no level closes
+pub stays : (h : History) (b : List ℕ) (n : ℕ) → n ≡ 0 → Are h b (climb n (held h b))
+unfolding climb
+stays h b n z = rw z (refl, refl)
+
 module _ (h : History) (b : List ℕ) (p : Plan) (x : Entry) (g : History) (c : List ℕ) (e : Are g c (climb (p .closes) (held h b))) (s : History) (is : s ≡ stretched g (x .end)) where
   pub written-lands : Firm h → Room h b → Feasible h p → x .end ≤ lastTime → Landed s p × Room s c
   written-lands f room can le =

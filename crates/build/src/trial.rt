@@ -69,6 +69,10 @@ fn planned(h: History, p: Plan, end: u64) -> History
     requires { ⌜ Firm h × Feasible h p × (end ≤ lastTime) ⌝ }
     ensures { λ r. ⌜ r ≡ planned p end h ⌝ }
 {
+    // neither a close nor a chain: straight to its node
+    if (p.closes == 0) & !p.chain {
+        return record::moves::stored(record::moves::stretched(h, end), p.level);
+    }
     let g = climb_on(h, p.closes);
     let s = record::moves::stretched(g, end);
     if p.chain {

@@ -71,6 +71,10 @@ fn written(nodes: &mut [u8], h: History, p: Plan, e: Entry) -> History
     requires { ⌜ Firm h × Room h (now nodes) × Feasible h p × (e .end ≤ lastTime) ⌝ }
     ensures { λ r. ⌜ (r ≡ written e p (held h (now (nodes .entry))) .history) × (now (nodes .exit) ≡ written e p (held h (now (nodes .entry))) .nodes) ⌝ }
 {
+    // neither a close nor a chain: straight to its node
+    if (p.closes == 0) & !p.chain {
+        return moves::store(nodes, record::moves::stretched(h, e.end), e, p.level);
+    }
     let g = climb(nodes, h, p.closes);
     let s = record::moves::stretched(g, e.end);
     if p.chain {
