@@ -50,6 +50,13 @@ pub and-right : (x y : Bool) → x && y ≡ true → y ≡ true
 and-right true y e = e
 and-right false y e = absurd (subst T (sym e) tt)
 
+pub and-no : (x y : Bool) → y ≡ false → x && y ≡ false
+and-no true y e = e
+and-no false y e = refl
+
+pub false-is : false ≡ true → ⊥
+false-is e = subst T (sym e) tt
+
 -- ---- the counts of a header that keeps R4 are within K and C
 
 pub record Fitting (v : View) (h : Header) : Type 0 where

@@ -4,9 +4,9 @@ use mathlib.Core.Path.{_≡_, refl, sym, ap, subst, _∙_}
 use mathlib.Core.Bool.{Bool, true, false, cond, not, _&&_}
 use mathlib.Core.List.{List}
 use native.Mathlib.Omega.{arith}
-use lib.Dec.{T, eqb}
+use lib.Dec.{eqb}
 use lib.ListN.{length}
-use borrow.Author.Tests.{eq-eqb, ne-eqb, not-true, not-false}
+use borrow.Author.Tests.{eq-eqb, ne-eqb, not-false}
 use Rattle.layout.specs.declared.Entry.{Entry}
 use Rattle.layout.specs.declared.Header.{Header}
 use Rattle.layout.specs.Layout.{entrySize, nodeSize, entryAt, readHeader, readEntry}
@@ -18,7 +18,7 @@ use Rattle.questions.specs.Rules.{broken, kept, covers}
 use Rattle.questions.specs.Walk.{placeOf, rootOf, step}
 use Rattle.questions.specs.Found.{many, more, noted, look, lookIn, lookAt, found, foundOf, shown}
 use Rattle.questions.proofs.Room.{entries-room, place-room, place-small}
-use Rattle.questions.proofs.Broken.{kept-fits}
+use Rattle.questions.proofs.Broken.{false-is, kept-fits}
 use Rattle.questions.proofs.Walks.{step-keeps, root-inside}
 
 -- ---- one entry
@@ -31,14 +31,19 @@ pub more-many : (s p : ℕ) → (s ≡ 0 → ⊥) → many ≡ more s p
 unfolding more
 more-many s p e = rw (ne-eqb s 0 e)
 
-module _ (q t p : ℕ) (e : Entry) (s : ℕ) (b : Bool) (is : b ≡ covers t e) where
-  pub noted-yes : (r : ℕ) → eqb (e .quark .0) q && b ≡ true → r ≡ more s p → r ≡ noted q t p e s
+module _ (q t p : ℕ) (e : Entry) (s r : ℕ) where
+  pub noted-other : (e .quark .0 ≡ q → ⊥) → r ≡ s → r ≡ noted q t p e s
   unfolding noted
-  noted-yes r y g = rw (← is, y) g
+  noted-other n g = rw (ne-eqb (e .quark .0) q n) g
 
-  pub noted-no : eqb (e .quark .0) q && b ≡ false → s ≡ noted q t p e s
-  unfolding noted
-  noted-no n = rw (← is, n)
+  module _ (same : e .quark .0 ≡ q) (b : Bool) (is : b ≡ covers t e) where
+    pub noted-yes : (m : ℕ) → b ≡ true → m ≡ more s p → r ≡ m → r ≡ noted q t p e s
+    unfolding noted
+    noted-yes m y f g = rw (eq-eqb (e .quark .0) q same, ← is, y) (g ∙ f)
+
+    pub noted-no : b ≡ false → r ≡ s → r ≡ noted q t p e s
+    unfolding noted
+    noted-no n g = rw (eq-eqb (e .quark .0) q same, ← is, n) g
 
 -- ---- a node's entries
 
@@ -61,10 +66,6 @@ module _ (l : List ℕ) (v : View) (q t level p : ℕ) (h : Header) (w : Walk) (
   stands =
       let f : h ≡ readHeader l (placeOf v (w .place)) = reads ∙ ap (readHeader l) at in
       ap (λ (k : ℕ). lookIn l v q t level h k w s) at ∙ ap (λ (y : Header). lookIn l v q t level y (placeOf v (w .place)) w s) f
-
-  pub look-skips : not x ≡ true → s ≡ lookAt l v q t level w s
-  unfolding lookIn
-  look-skips n = (rw (← is, ← good, not-true x n)) ∙ stands
 
   pub look-node : (first r : ℕ) → not x ≡ false → first ≡ entryAt (v .shape) 0 → r ≡ look l q t (p + first) (h .intervals) s → r ≡ lookAt l v q t level w s
   unfolding lookIn
@@ -99,7 +100,7 @@ module _ (l : List ℕ) (v : View) (q t : ℕ) where
 
 pub shown-some : (s : ℕ) → shown s ≡ true → 0 < s
 unfolding shown
-shown-some zero e = absurd (subst T (sym e) tt)
+shown-some zero e = absurd (false-is e)
 shown-some (suc s) e = omega arith
 
 -- ---- what was found: nothing, one entry that lies in the bytes l and in the first 2^32 of them, or many
@@ -109,7 +110,7 @@ Near l s = shown s ≡ true → (s + 31 ≤ length l) × (s + 31 ≤ 4294967296)
 
 none-near : (l : List ℕ) → Near l 0
 unfolding shown
-none-near l e = absurd (subst T (sym e) tt)
+none-near l e = absurd (false-is e)
 
 noted-near : (l : List ℕ) (q t p : ℕ) (e : Entry) (s : ℕ) → p + entrySize ≤ length l → p + entrySize ≤ 4294967296 → Near l s → Near l (noted q t p e s)
 unfolding noted more shown
@@ -117,7 +118,7 @@ noted-near l q t p e s h k g = go (eqb (e .quark .0) q && covers t e) (eqb s 0)
   where
     go : (b c : Bool) → Near l (cond b (cond c (p + 1) many) s)
     go true true e = (omega arith, omega arith)
-    go true false e = absurd (subst T (sym e) tt)
+    go true false e = absurd (false-is e)
     go false c e = g e
 
 look-near : (l : List ℕ) (q t p n s : ℕ) → p + entrySize * n ≤ length l → p + entrySize * n ≤ 4294967296 → Near l s → Near l (look l q t p n s)

@@ -6,7 +6,7 @@ use mathlib.Core.List.{List, _++_}
 use native.Mathlib.Numerals.{add-one}
 use native.Mathlib.Omega.{arith}
 use lib.Dec.{T, leb, ltb, eqb}
-use lib.ListN.{length, getD, replicate, length-replicate, getD-replicate}
+use lib.ListN.{length, getD}
 use lib.Seq.{sets}
 use borrow.Author.Tests.{ltb-true, ltb-false, eq-eqb, ne-eqb, not-true, not-false}
 use Rattle.words.proofs.Stores.{sets-append}
@@ -27,13 +27,10 @@ use Rattle.questions.specs.Single.{fromTable, tableEntry, toldEntry, ent
 use Rattle.questions.specs.Full.{alone, fullEntry, everyQuark, fullEntries, refusedFull, walkedRefusal, walkedFull, walkedWritten}
 use Rattle.questions.specs.Table.{ongoing, begunFrom, allBegun, foundAll, entryFor, Readable, entriesFrom}
 use Rattle.questions.proofs.Room.{table-in}
-use Rattle.questions.proofs.Broken.{and-left, and-right}
+use Rattle.questions.proofs.Broken.{false-is, and-left, and-right}
 use Rattle.questions.proofs.Finds.{Near, root-near, shown-some}
 use Rattle.questions.proofs.After.{found-after}
 use Rattle.questions.proofs.Tables.{found-all-at, length-from, begun-at}
-
-pub false-is : false ≡ true → ⊥
-false-is e = subst T (sym e) tt
 
 -- ---- a test of all quarks
 
@@ -123,10 +120,10 @@ module _ (nodes table xs : List ℕ) (n i p : ℕ) (b : List ℕ) where
 
 -- ---- the table against the promise
 
--- the table after the ongoing states and the walk
-pub all-found : (l : List ℕ) (v : View) (t : ℕ) (table ys xs : List ℕ) (x : Bool) → xs ≡ foundAll l v t ys → (x ≡ true → ys ≡ allBegun v t table (replicate 4096 0)) → not x ≡ false
-    → xs ≡ foundAll l v t (allBegun v t table (replicate 4096 0))
-all-found l v t table ys xs x e f n = e ∙ ap (foundAll l v t) (f (not-false x n))
+-- the table after the ongoing states and the walk; k: it broke no rule
+pub all-found : (l : List ℕ) (v : View) (t : ℕ) (table zs ys xs : List ℕ) (x y k : Bool) → (x ≡ true → ys ≡ allBegun v t table zs) → not x ≡ false → (k ≡ true → xs ≡ foundAll l v t ys) → y ≡ k
+    → not y ≡ false → xs ≡ foundAll l v t (allBegun v t table zs)
+all-found l v t table zs ys xs x y k begins n finds good m = finds (sym good ∙ not-false y m) ∙ ap (foundAll l v t) (begins (not-false x n))
 
 -- the table answers only until finish
 pub from-going : (v : View) (t q : ℕ) (table : List ℕ) → fromTable v t q table ≡ true → v .finished ≡ false
@@ -137,36 +134,30 @@ from-going v t q table e = not-true (v .finished) (and-left (not (v .finished)) 
 abbrev slot : Bool → ℕ → ℕ
 slot b f = cond b (cond (eqb f 0) ongoing many) f
 
-module _ (v : View) (t : ℕ) (l table : List ℕ) (roomy : Roomy v l) (xs : List ℕ) (is : xs ≡ foundAll l v t (allBegun v t table (replicate 4096 0))) where
-  blank : List ℕ
-  blank = replicate 4096 0
-
-  blank-long : length (allBegun v t table blank) ≡ 4096
-  unfolding allBegun blank
-  blank-long = go (v .finished)
+-- before the walk nothing is found, in zs
+module _ (v : View) (t : ℕ) (l table : List ℕ) (roomy : Roomy v l) (zs : List ℕ) (long : v .attributes ≤ length zs) (blank : (q : ℕ) → q < v .attributes → getD zs q 0 ≡ 0) (xs : List ℕ)
+    (is : xs ≡ foundAll l v t (allBegun v t table zs)) where
+  begun-long : length (allBegun v t table zs) ≡ length zs
+  unfolding allBegun
+  begun-long = go (v .finished)
     where
-      go : (b : Bool) → length (cond b blank (begunFrom table t 0 (v .attributes) blank)) ≡ 4096
-      go true = length-replicate {A = ℕ} 4096 0
-      go false = length-from table t 0 (v .attributes) blank ∙ length-replicate {A = ℕ} 4096 0
+      go : (b : Bool) → length (cond b zs (begunFrom table t 0 (v .attributes) zs)) ≡ length zs
+      go true = refl
+      go false = length-from table t 0 (v .attributes) zs
 
-  begun-slot : (q : ℕ) → q < v .attributes → getD (allBegun v t table blank) q 0 ≡ cond (fromTable v t q table) ongoing 0
-  unfolding allBegun fromTable blank
+  begun-slot : (q : ℕ) → q < v .attributes → getD (allBegun v t table zs) q 0 ≡ cond (fromTable v t q table) ongoing 0
+  unfolding allBegun fromTable
   begun-slot q h = go (v .finished)
     where
-      zeros : getD blank q 0 ≡ 0
-      zeros = getD-replicate {A = ℕ} 4096 q 0 0 (omega (arith, roomy .attributes))
-
-      go : (b : Bool) → getD (cond b blank (begunFrom table t 0 (v .attributes) blank)) q 0 ≡ cond (not b && leb (ongoingAt table q .start) t) ongoing 0
-      go true = zeros
-      go false =
-          begun-at table t 0 (v .attributes) q blank (omega (arith, length-replicate {A = ℕ} 4096 0, roomy .attributes)) (omega arith) (omega arith)
-          ∙ ap (λ (s : ℕ). cond (leb (ongoingAt table q .start) t) ongoing s) zeros
+      go : (b : Bool) → getD (cond b zs (begunFrom table t 0 (v .attributes) zs)) q 0 ≡ cond (not b && leb (ongoingAt table q .start) t) ongoing 0
+      go true = blank q h
+      go false = begun-at table t 0 (v .attributes) q zs (omega arith) (omega arith) (omega arith) ∙ ap (λ (s : ℕ). cond (leb (ongoingAt table q .start) t) ongoing s) (blank q h)
 
   slot-at : (q : ℕ) → q < v .attributes → getD xs q 0 ≡ slot (fromTable v t q table) (foundOf l v q t)
-  unfolding foundAll foundOf blank
+  unfolding foundAll foundOf
   slot-at q h =
       ap (λ (z : List ℕ). getD z q 0) is
-      ∙ found-all-at l v t q (v .level + 1) (rootOf v) (allBegun v t table blank) blank-long (omega (arith, roomy .attributes))
+      ∙ found-all-at l v t q (v .level + 1) (rootOf v) (allBegun v t table zs) (omega (arith, begun-long))
       ∙ ap (found l v q t (v .level + 1) (rootOf v)) (begun-slot q h)
       ∙ go (fromTable v t q table)
     where
@@ -201,7 +192,7 @@ module _ (v : View) (t : ℕ) (l table : List ℕ) (roomy : Roomy v l) (xs : Lis
       where
         go : (z : Bool) → shown (cond z ongoing many) ≡ true → (cond z ongoing many ≡ ongoing → ⊥) → ⊥
         go true s n = n refl
-        go false s n = subst T (sym s) tt
+        go false s n = false-is s
     near-slot false f near s n = (shown-some f s, near s .0)
 
     from-slot : (b : Bool) (f : ℕ) → Near l f → shown (slot b f) ≡ true → slot b f ≡ ongoing → b ≡ true
@@ -209,7 +200,7 @@ module _ (v : View) (t : ℕ) (l table : List ℕ) (roomy : Roomy v l) (xs : Lis
     from-slot false f near s e = absurd (omega (arith, near s .1))
 
     pub readable : (v .finished ≡ false → v .attributes ≤ length table / entrySize) → (q : ℕ) → q < v .attributes → Readable l table q (getD xs q 0)
-    readable long q h =
+    readable table-long q h =
         let F = foundOf l v q t in
         let b = fromTable v t q table in
         let e = slot-at q h in
@@ -220,7 +211,7 @@ module _ (v : View) (t : ℕ) (l table : List ℕ) (roomy : Roomy v l) (xs : Lis
         }
       where
         table-room : fromTable v t q table ≡ true → tableAt q + entrySize ≤ length table
-        table-room z = table-in q (v .attributes) (length table) h (long (from-going v t q table z))
+        table-room z = table-in q (v .attributes) (length table) h (table-long (from-going v t q table z))
 
     entry-slot : (q : ℕ) (b : Bool) (f : ℕ) → Near l f → shown (slot b f) ≡ true → entryFor l table q (slot b f) ≡ cond b (tableEntry q table) (readEntry l (f - 1))
     unfolding entryFor shown
@@ -228,7 +219,7 @@ module _ (v : View) (t : ℕ) (l table : List ℕ) (roomy : Roomy v l) (xs : Lis
       where
         go : (z : Bool) → shown (cond z ongoing many) ≡ true → cond (eqb (cond z ongoing many) ongoing) (tableEntry q table) (readEntry l (cond z ongoing many - 1)) ≡ tableEntry q table
         go true s = refl
-        go false s = absurd (subst T (sym s) tt)
+        go false s = absurd (false-is s)
     entry-slot q false f near s = rw (ne-eqb f ongoing (λ z. omega (arith, near s .1)))
 
     entry-same : (q : ℕ) → q < v .attributes → entryFor l table q (getD xs q 0) ≡ fullEntry v t l table q

@@ -29,20 +29,23 @@ use Rattle.questions.proofs.Broken.{and-left, and-right}
 
 -- ---- the walk and R7
 
-module _ (v : View) (t q : ℕ) (l : List ℕ) (w : Walk) (s : ℕ) (x : Bool) (walks : w ≡ walkOf l v t) (finds : s ≡ foundOf l v q t) (good : x ≡ kept (w .rule)) (r : Single) where
+module _ (v : View) (t q : ℕ) (l : List ℕ) (w : Walk) (s : ℕ) (x : Bool) (walks : w ≡ walkOf l v t) (finds : kept (w .rule) ≡ true → s ≡ foundOf l v q t) (good : x ≡ kept (w .rule)) (r : Single) where
   pub walked-damaged : not x ≡ true → r ≡ refusedSingle Damaged → r ≡ walkedSingle v t q l
   unfolding walkedSingle told
   walked-damaged n e = rw (← walks, ← good, not-true x n) e
 
   module _ (y : Bool) (one : y ≡ shown s) (n : not x ≡ false) where
+    is-found : s ≡ foundOf l v q t
+    is-found = finds (sym good ∙ not-false x n)
+
     pub walked-none : not y ≡ true → r ≡ refusedSingle Damaged → r ≡ walkedSingle v t q l
     unfolding walkedSingle told
-    walked-none m e = rw (← walks, ← good, not-false x n, ← finds, ← one, not-true y m) e
+    walked-none m e = rw (← walks, ← good, not-false x n, ← is-found, ← one, not-true y m) e
 
     pub walked-told : (a : Entry) → not y ≡ false → a ≡ readEntry l (s - 1) → r ≡ record { refusal = Nothing; nodes = w .entered; entry = a } → r ≡ walkedSingle v t q l
     unfolding walkedSingle told toldEntry
     walked-told a m reads e =
-        rw (← walks, ← good, not-false x n, ← finds, ← one, not-false y m) (e ∙ ap (λ (z : Entry). record { refusal = Nothing; nodes = w .entered; entry = z }) reads)
+        rw (← walks, ← good, not-false x n, ← is-found, ← one, not-false y m) (e ∙ ap (λ (z : Entry). record { refusal = Nothing; nodes = w .entered; entry = z }) reads)
 
 -- where the walk tells, its answer is what the question says
 walked-view : (v : View) (t q : ℕ) (l table : List ℕ) → entryFine v q table ≡ true → fromTable v t q table ≡ false → walkedSingle v t q l ≡ viewSingle v t q l table

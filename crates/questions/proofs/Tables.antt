@@ -4,10 +4,10 @@ use mathlib.Core.Path.{_≡_, refl, sym, ap, subst, _∙_}
 use mathlib.Core.Bool.{Bool, true, false, cond, not, _&&_}
 use mathlib.Core.List.{List}
 use native.Mathlib.Omega.{arith}
-use lib.Dec.{leb, ltb, eqb}
+use lib.Dec.{leb, eqb}
 use lib.ListN.{length, getD, set, length-set}
 use lib.Seq.{getD-set-same, getD-set-other}
-use borrow.Author.Tests.{ltb-true, ltb-false, eqb-true, eqb-false, le-leb, lt-leb, not-true, not-false}
+use borrow.Author.Tests.{eqb-true, eqb-false, le-leb, lt-leb, not-false}
 use Rattle.layout.specs.declared.Entry.{Entry}
 use Rattle.layout.specs.declared.Header.{Header}
 use Rattle.layout.specs.Layout.{entrySize, entryAt, readHeader, readEntry}
@@ -20,47 +20,38 @@ use Rattle.questions.specs.Rules.{broken, kept, covers}
 use Rattle.questions.specs.Walk.{placeOf, rootOf, step}
 use Rattle.questions.specs.Found.{more, noted, look, lookIn, lookAt, found}
 use Rattle.questions.specs.Table.{ongoing, begun, begunFrom, note, noteAll, noteIn, noteAt, foundFrom, foundAll}
-use Rattle.questions.proofs.Broken.{and-left}
 
 -- ---- an entry is noted
 
 module _ (t p : ℕ) (e : Entry) (xs : List ℕ) where
-  pub note-in : (b : Bool) → ltb (e .quark .0) 4096 && b ≡ true → e .quark .0 < 4096
-  note-in b h = ltb-true _ _ (and-left (ltb (e .quark .0) 4096) b h)
-
   module _ (b : Bool) (is : b ≡ covers t e) where
-    pub note-yes : (r : ℕ) → ltb (e .quark .0) 4096 && b ≡ true → r ≡ more (getD xs (e .quark .0) 0) p → set xs (e .quark .0) r ≡ note t p e xs
+    pub note-yes : (r : ℕ) → b ≡ true → r ≡ more (getD xs (e .quark .0) 0) p → set xs (e .quark .0) r ≡ note t p e xs
     unfolding note
     note-yes r h g = rw (← is, h, ← g)
 
-    pub note-no : ltb (e .quark .0) 4096 && b ≡ false → xs ≡ note t p e xs
+    pub note-no : b ≡ false → xs ≡ note t p e xs
     unfolding note
     note-no h = rw (← is, h)
 
-  length-note : length (note t p e xs) ≡ length xs
+  pub length-note : length (note t p e xs) ≡ length xs
   unfolding note
-  length-note = go (ltb (e .quark .0) 4096 && covers t e)
+  length-note = go (covers t e)
     where
       go : (b : Bool) → length (cond b (set xs (e .quark .0) (more (getD xs (e .quark .0) 0) p)) xs) ≡ length xs
       go true = simp length-set
       go false = refl
 
-  note-at : (q : ℕ) → length xs ≡ 4096 → q < 4096 → getD (note t p e xs) q 0 ≡ noted q t p e (getD xs q 0)
+  note-at : (q : ℕ) → q < length xs → getD (note t p e xs) q 0 ≡ noted q t p e (getD xs q 0)
   unfolding note noted
-  note-at q long h = go (ltb (e .quark .0) 4096) (covers t e) (eqb (e .quark .0) q) refl refl
+  note-at q h = go (covers t e) (eqb (e .quark .0) q) refl
     where
-      go : (c a d : Bool) → ltb (e .quark .0) 4096 ≡ c → eqb (e .quark .0) q ≡ d
-          → getD (cond (c && a) (set xs (e .quark .0) (more (getD xs (e .quark .0) 0) p)) xs) q 0 ≡ cond (d && a) (more (getD xs q 0) p) (getD xs q 0)
-      go true true true f g =
+      go : (a d : Bool) → eqb (e .quark .0) q ≡ d → getD (cond a (set xs (e .quark .0) (more (getD xs (e .quark .0) 0) p)) xs) q 0 ≡ cond (d && a) (more (getD xs q 0) p) (getD xs q 0)
+      go true true g =
           subst (λ (k : ℕ). getD (set xs (e .quark .0) (more (getD xs (e .quark .0) 0) p)) k 0 ≡ more (getD xs k 0) p) (eqb-true (e .quark .0) q g)
-          (getD-set-same xs (e .quark .0) (more (getD xs (e .quark .0) 0) p) 0 (omega (arith, ltb-true (e .quark .0) 4096 f)))
-      go true true false f g = getD-set-other xs (e .quark .0) q (more (getD xs (e .quark .0) 0) p) 0 (λ z. eqb-false (e .quark .0) q g (sym z))
-      go false true true f g = absurd (omega (arith, ltb-false (e .quark .0) 4096 f, eqb-true (e .quark .0) q g))
-      go false true false f g = refl
-      go true false true f g = refl
-      go true false false f g = refl
-      go false false true f g = refl
-      go false false false f g = refl
+          (getD-set-same xs (e .quark .0) (more (getD xs (e .quark .0) 0) p) 0 (omega (arith, eqb-true (e .quark .0) q g)))
+      go true false g = getD-set-other xs (e .quark .0) q (more (getD xs (e .quark .0) 0) p) 0 (λ z. eqb-false (e .quark .0) q g (sym z))
+      go false true g = refl
+      go false false g = refl
 
 -- ---- a node's entries
 
@@ -81,12 +72,12 @@ unfolding noteAll
 length-all l t p zero xs = refl
 length-all l t p (suc n) xs = length-all l t (p + entrySize) n _ ∙ length-note t p (readEntry l p) xs
 
-all-at : (l : List ℕ) (q t p n : ℕ) (xs : List ℕ) → length xs ≡ 4096 → q < 4096 → getD (noteAll l t p n xs) q 0 ≡ look l q t p n (getD xs q 0)
+all-at : (l : List ℕ) (q t p n : ℕ) (xs : List ℕ) → q < length xs → getD (noteAll l t p n xs) q 0 ≡ look l q t p n (getD xs q 0)
 unfolding noteAll look
-all-at l q t p zero xs long h = refl
-all-at l q t p (suc n) xs long h =
-    all-at l q t (p + entrySize) n (note t p (readEntry l p) xs) (length-note t p (readEntry l p) xs ∙ long) h
-    ∙ ap (λ (s : ℕ). look l q t (p + entrySize) n s) (note-at t p (readEntry l p) xs q long h)
+all-at l q t p zero xs h = refl
+all-at l q t p (suc n) xs h =
+    all-at l q t (p + entrySize) n (note t p (readEntry l p) xs) (omega (arith, length-note t p (readEntry l p) xs))
+    ∙ ap (λ (s : ℕ). look l q t (p + entrySize) n s) (note-at t p (readEntry l p) xs q h)
 
 -- ---- a node
 
@@ -97,10 +88,6 @@ module _ (l : List ℕ) (v : View) (t level p : ℕ) (h : Header) (w : Walk) (xs
   stands =
       let f : h ≡ readHeader l (placeOf v (w .place)) = reads ∙ ap (readHeader l) at in
       ap (λ (k : ℕ). noteIn l v t level h k w xs) at ∙ ap (λ (y : Header). noteIn l v t level y (placeOf v (w .place)) w xs) f
-
-  pub node-skips : not x ≡ true → xs ≡ noteAt l v t level w xs
-  unfolding noteIn
-  node-skips n = (rw (← is, ← good, not-true x n)) ∙ stands
 
   pub node-notes : (first : ℕ) (ys : List ℕ) → not x ≡ false → first ≡ entryAt (v .shape) 0 → ys ≡ noteAll l t (p + first) (h .intervals) xs → ys ≡ noteAt l v t level w xs
   unfolding noteIn
@@ -115,9 +102,9 @@ module _ (l : List ℕ) (v : View) (t level : ℕ) (w : Walk) (xs : List ℕ) wh
       go true = length-all l t _ _ xs
       go false = refl
 
-  node-at : (q : ℕ) → length xs ≡ 4096 → q < 4096 → getD (noteAt l v t level w xs) q 0 ≡ lookAt l v q t level w (getD xs q 0)
+  node-at : (q : ℕ) → q < length xs → getD (noteAt l v t level w xs) q 0 ≡ lookAt l v q t level w (getD xs q 0)
   unfolding noteAt noteIn lookAt lookIn
-  node-at q long h = go (kept (broken v w level (readHeader l (placeOf v (w .place)))))
+  node-at q h = go (kept (broken v w level (readHeader l (placeOf v (w .place)))))
     where
       at : ℕ
       at = placeOf v (w .place) + entryAt (v .shape) 0
@@ -126,7 +113,7 @@ module _ (l : List ℕ) (v : View) (t level : ℕ) (w : Walk) (xs : List ℕ) wh
       n = readHeader l (placeOf v (w .place)) .intervals
 
       go : (b : Bool) → getD (cond b (noteAll l t at n xs) xs) q 0 ≡ cond b (look l q t at n (getD xs q 0)) (getD xs q 0)
-      go true = all-at l q t at n xs long h
+      go true = all-at l q t at n xs h
       go false = refl
 
 -- ---- the walk
@@ -155,12 +142,12 @@ module _ (l : List ℕ) (v : View) (t : ℕ) where
   from-root w xs e = ap (λ (x : Walk). foundFrom l v t (v .level + 1) x xs) (sym e)
 
   -- the table says of each quark what a single's walk finds
-  pub found-all-at : (q n : ℕ) (w : Walk) (xs : List ℕ) → length xs ≡ 4096 → q < 4096 → getD (foundFrom l v t n w xs) q 0 ≡ found l v q t n w (getD xs q 0)
+  pub found-all-at : (q n : ℕ) (w : Walk) (xs : List ℕ) → q < length xs → getD (foundFrom l v t n w xs) q 0 ≡ found l v q t n w (getD xs q 0)
   unfolding foundFrom found
-  found-all-at q zero w xs long h = refl
-  found-all-at q (suc n) w xs long h =
+  found-all-at q zero w xs h = refl
+  found-all-at q (suc n) w xs h =
       go (w .go)
-      (found-all-at q n (step l v t n w) (noteAt l v t n w xs) (length-node l v t n w xs ∙ long) h ∙ ap (λ (s : ℕ). found l v q t n (step l v t n w) s) (node-at l v t n w xs q long h))
+      (found-all-at q n (step l v t n w) (noteAt l v t n w xs) (omega (arith, length-node l v t n w xs)) ∙ ap (λ (s : ℕ). found l v q t n (step l v t n w) s) (node-at l v t n w xs q h))
     where
       go : (b : Bool) → getD (foundFrom l v t n (step l v t n w) (noteAt l v t n w xs)) q 0 ≡ found l v q t n (step l v t n w) (lookAt l v q t n w (getD xs q 0))
           → getD (cond b (foundFrom l v t n (step l v t n w) (noteAt l v t n w xs)) xs) q 0 ≡ cond b (found l v q t n (step l v t n w) (lookAt l v q t n w (getD xs q 0))) (getD xs q 0)
@@ -178,7 +165,7 @@ module _ (q start t : ℕ) (xs : List ℕ) where
   unfolding begun
   begun-no h = rw (lt-leb start t h)
 
-  length-begun : length (begun q start t xs) ≡ length xs
+  pub length-begun : length (begun q start t xs) ≡ length xs
   unfolding begun
   length-begun = go (leb start t)
     where

@@ -1,10 +1,10 @@
 -- The walk, node by node: each way through `step`, what a step keeps, and the loop. Assumes nothing.
 use Prim.Native.Nat.{ℕ, zero, suc, _+_, _-_, _≤_, _<_}
 use mathlib.Core.Path.{_≡_, refl, sym, ap, subst, _∙_}
-use mathlib.Core.Bool.{Bool, true, false, cond, not, _&&_}
+use mathlib.Core.Bool.{Bool, true, false, cond, not}
 use mathlib.Core.List.{List}
 use native.Mathlib.Omega.{arith}
-use lib.Dec.{T, ltb, eqb}
+use lib.Dec.{ltb, eqb}
 use borrow.Author.Tests.{ltb-true, not-true, not-false}
 use Rattle.layout.specs.declared.Child.{Child}
 use Rattle.layout.specs.declared.Entry.{Entry}
@@ -17,20 +17,34 @@ use Rattle.questions.specs.declared.Rule.{Rule}
 use Rattle.questions.specs.declared.Rule.the-variants.{Kept, R1, R6}
 use Rattle.questions.specs.Rules.{broken, kept, entrySound, holds}
 use Rattle.questions.specs.Walk.{placeOf, rootOf, ended, counted, onward, allSound, pick, child, downTo, descend, inside, enter, step, walk, walkOf}
+use Rattle.questions.proofs.Broken.{false-is}
 
 -- ---- R6 over the entries
 
-module _ (l : List ℕ) (a : ℕ) (h : Header) (p n i : ℕ) (b : Bool) where
-  pub sound-turn : (e : Entry) (r : Bool) → e ≡ readEntry l p → r ≡ entrySound a h e → i < n → allSound l a h p (n - i) b ≡ allSound l a h (p + entrySize) (n - (i + 1)) (b && r)
-  unfolding allSound
-  sound-turn e r is gives lt =
-      let z : n - i ≡ suc (n - (i + 1)) = omega arith in
-      let y : entrySound a h (readEntry l p) ≡ r = ap (entrySound a h) (sym is) ∙ sym gives in
-      ap (λ (k : ℕ). allSound l a h p k b) z ∙ ap (λ (x : Bool). allSound l a h (p + entrySize) (n - (i + 1)) (b && x)) y
+-- after one that breaks it the others make no difference
+sound-lost : (l : List ℕ) (a : ℕ) (h : Header) (p n : ℕ) → allSound l a h p n false ≡ false
+unfolding allSound
+sound-lost l a h p zero = refl
+sound-lost l a h p (suc n) = sound-lost l a h (p + entrySize) n
 
-  pub sound-done : n ≤ i → allSound l a h p (n - i) b ≡ b
+module _ (l : List ℕ) (a : ℕ) (h : Header) (p n i : ℕ) where
+  module _ (e : Entry) (r : Bool) (is : e ≡ readEntry l p) (gives : r ≡ entrySound a h e) (lt : i < n) where
+    turn : allSound l a h p (n - i) true ≡ allSound l a h (p + entrySize) (n - (i + 1)) r
+    unfolding allSound
+    turn =
+        let z : n - i ≡ suc (n - (i + 1)) = omega arith in
+        let y : entrySound a h (readEntry l p) ≡ r = ap (entrySound a h) (sym is) ∙ sym gives in
+        ap (λ (k : ℕ). allSound l a h p k true) z ∙ ap (allSound l a h (p + entrySize) (n - (i + 1))) y
+
+    pub sound-turn : not r ≡ false → allSound l a h p (n - i) true ≡ allSound l a h (p + entrySize) (n - (i + 1)) true
+    sound-turn y = turn ∙ ap (allSound l a h (p + entrySize) (n - (i + 1))) (not-false r y)
+
+    pub sound-stop : not r ≡ true → allSound l a h p (n - i) true ≡ false
+    sound-stop y = turn ∙ ap (allSound l a h (p + entrySize) (n - (i + 1))) (not-true r y) ∙ sound-lost l a h (p + entrySize) (n - (i + 1))
+
+  pub sound-done : n ≤ i → allSound l a h p (n - i) true ≡ true
   unfolding allSound
-  sound-done le = let z : n - i ≡ 0 = omega arith in ap (λ (k : ℕ). allSound l a h p k b) z
+  sound-done le = let z : n - i ≡ 0 = omega arith in ap (λ (k : ℕ). allSound l a h p k true) z
 
 -- ---- a node is entered
 
@@ -55,22 +69,28 @@ module _ (l : List ℕ) (v : View) (t level p : ℕ) (h : Header) (w r : Walk) (
     unfolding enter inside
     enter-well m e = (rw (← is, ← good, not-false x n, ← from, ← sound, not-false b m) e) ∙ stands
 
--- ---- a step stays within the used nodes, and enters at most one
+-- a walk that ended by a rule says that it is broken
+pub ended-broken : (w r : Walk) (rule : Rule) (place : Seq) → kept rule ≡ false → r ≡ ended w rule place → kept (r .rule) ≡ true → ⊥
+unfolding ended
+ended-broken w r rule place b is e = false-is (sym b ∙ ap (λ (x : Walk). kept (x .rule)) (sym is) ∙ e)
+
+-- ---- a step stays within the used nodes, goes on only where no rule is broken, and enters at most one
 
 pub record Keeps (v : View) (m : ℕ) (r : Walk) : Type 0 where
   pub inside : r .go ≡ true → r .place .0 < v .used
+  pub well : r .go ≡ true → kept (r .rule) ≡ true
   pub few : r .entered ≤ m
 
 ended-keeps : (v : View) (w : Walk) (m : ℕ) (rule : Rule) (place : Seq) → w .entered ≤ m → Keeps v m (ended w rule place)
 unfolding ended
-ended-keeps v w m rule place h = record { inside = λ e. absurd (subst T (sym e) tt); few = h }
+ended-keeps v w m rule place h = record { inside = λ e. absurd (false-is e); well = λ e. absurd (false-is e); few = h }
 
 child-keeps : (l : List ℕ) (v : View) (t end : ℕ) (c : Child) (m : ℕ) (w : Walk) → w .entered ≤ m → Keeps v m (child l v t end c w)
 unfolding child onward
 child-keeps l v t end c m w few = go (ltb (c .sequence .0) (v .used)) (holds t (readHeader l (placeOf v (c .sequence)))) refl
   where
     on : c .sequence .0 < v .used → Keeps v m (onward w c end)
-    on lt = record { inside = λ e. lt; few = few }
+    on lt = record { inside = λ e. lt; well = λ e. refl; few = few }
 
     go : (a b : Bool) → ltb (c .sequence .0) (v .used) ≡ a → Keeps v m (cond a (cond b (onward w c end) (ended w Kept (w .place))) (ended w R1 (c .sequence)))
     go true true e = on (ltb-true _ _ e)
@@ -128,6 +148,10 @@ module _ (l : List ℕ) (v : View) (t : ℕ) where
 pub root-inside : (v : View) (w : Walk) → w ≡ rootOf v → v .root .0 < v .used → w .go ≡ true → w .place .0 < v .used
 unfolding rootOf
 root-inside v w e h g = rw e h
+
+pub root-well : (v : View) (w : Walk) → w ≡ rootOf v → kept (w .rule) ≡ true
+unfolding rootOf
+root-well v w e = rw e
 
 pub root-few : (v : View) (w : Walk) → w ≡ rootOf v → v .level ≤ 15 → w .entered + (v .level + 1) ≤ 16
 unfolding rootOf

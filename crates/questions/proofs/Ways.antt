@@ -1,11 +1,11 @@
 -- The walk: each way through its definitions, turn by turn. Assumes nothing.
-use Prim.Native.Nat.{ℕ, suc, _+_, _-_, _≤_, _<_}
+use Prim.Native.Nat.{ℕ, zero, suc, _+_, _-_, _*_, _≤_, _<_}
 use mathlib.Core.Path.{_≡_, sym, ap, _∙_}
 use mathlib.Core.Bool.{Bool, true, false, cond}
 use mathlib.Core.List.{List}
 use native.Mathlib.Omega.{arith}
 use lib.Dec.{leb}
-use borrow.Author.Tests.{eq-eqb, ne-eqb, lt-ltb, le-ltb}
+use borrow.Author.Tests.{eq-eqb, ne-eqb, lt-ltb, le-ltb, le-leb, lt-leb}
 use Rattle.layout.specs.declared.Child.{Child}
 use Rattle.layout.specs.declared.Header.{Header}
 use Rattle.layout.specs.declared.Seq.{Seq}
@@ -17,26 +17,39 @@ use Rattle.questions.specs.declared.Rule.the-variants.{Kept, R1}
 use Rattle.questions.specs.Rules.{holds}
 use Rattle.questions.specs.Walk.{placeOf, ended, counted, onward, pick, child, downTo, descend}
 
--- ---- the child taken
+-- ---- the child taken: looked for from the last entry down
 
-module _ (l : List ℕ) (t p i n k start r : ℕ) (is : start ≡ num l (p + 4) 8) (gives : r ≡ cond (leb start t) (i + 1) k) where
-  pub pick-turn : i < n → pick l t p i (n - i) k ≡ pick l t (p + childSize) (i + 1) (n - (i + 1)) r
-  unfolding pick
-  pick-turn h =
-      let e : n - i ≡ suc (n - (i + 1)) = omega arith in
-      ap (λ (m : ℕ). pick l t p i m k) e
-      ∙ ap (λ (m : ℕ). pick l t (p + childSize) (i + 1) (n - (i + 1)) m) (ap (λ (m : ℕ). cond (leb m t) (i + 1) k) (sym is) ∙ sym gives)
-
-  pub pick-most : k ≤ i → r ≤ i + 1
-  pick-most h = rw gives (go (leb start t))
-    where
-      go : (b : Bool) → cond b (i + 1) k ≤ i + 1
-      go true = omega arith
-      go false = omega arith
-
-pub pick-done : (l : List ℕ) (t p i n k : ℕ) → n ≤ i → pick l t p i (n - i) k ≡ k
+-- of one more entry: that one, or the last of those before it
+pick-last : (l : List ℕ) (t p i n k : ℕ) → pick l t p i (suc n) k ≡ cond (leb (readChild l (p + childSize * n) .start) t) (i + suc n) (pick l t p i n k)
 unfolding pick
-pick-done l t p i n k h = let e : n - i ≡ 0 = omega arith in ap (λ (m : ℕ). pick l t p i m k) e
+pick-last l t p i zero k = let e : p ≡ p + childSize * 0 = omega arith in ap (λ (x : ℕ). cond (leb (readChild l x .start) t) (i + 1) k) e
+pick-last l t p i (suc n) k =
+    let e : p + childSize + childSize * n ≡ p + childSize * suc n = omega arith in
+    let f : i + 1 + suc n ≡ i + suc (suc n) = omega arith in
+    pick-last l t (p + childSize) (i + 1) n (cond (leb (readChild l p .start) t) (i + 1) k)
+    ∙ ap (λ (x : ℕ). cond (leb (readChild l x .start) t) (i + 1 + suc n) (pick l t p i (suc n) k)) e
+    ∙ ap (λ (x : ℕ). cond (leb (readChild l (p + childSize * suc n) .start) t) x (pick l t p i (suc n) k)) f
+
+module _ (l : List ℕ) (t at i p start : ℕ) (some : 0 < i) (from : p ≡ at + childSize * (i - 1)) (is : start ≡ num l (p + 4) 8) where
+  last : pick l t at 0 i 0 ≡ cond (leb start t) i (pick l t at 0 (i - 1) 0)
+  last =
+      let e : i ≡ suc (i - 1) = omega arith in
+      let f : 0 + suc (i - 1) ≡ i = omega arith in
+      ap (λ (m : ℕ). pick l t at 0 m 0) e
+      ∙ pick-last l t at 0 (i - 1) 0
+      ∙ ap (λ (m : ℕ). cond (leb (readChild l (at + childSize * (i - 1)) .start) t) m (pick l t at 0 (i - 1) 0)) f
+      ∙ ap (λ (x : ℕ). cond (leb (readChild l x .start) t) i (pick l t at 0 (i - 1) 0)) (sym from)
+      ∙ ap (λ (x : ℕ). cond (leb x t) i (pick l t at 0 (i - 1) 0)) (sym is)
+
+  pub pick-here : start ≤ t → pick l t at 0 i 0 ≡ i
+  pick-here h = last ∙ ap (λ (b : Bool). cond b i (pick l t at 0 (i - 1) 0)) (le-leb start t h)
+
+  pub pick-before : t < start → pick l t at 0 i 0 ≡ pick l t at 0 (i - 1) 0
+  pick-before h = last ∙ ap (λ (b : Bool). cond b i (pick l t at 0 (i - 1) 0)) (lt-leb start t h)
+
+pub pick-none : (l : List ℕ) (t at i : ℕ) → i ≤ 0 → pick l t at 0 i 0 ≡ 0
+unfolding pick
+pick-none l t at i h = let e : i ≡ 0 = omega arith in ap (λ (m : ℕ). pick l t at 0 m 0) e
 
 -- ---- to the child
 

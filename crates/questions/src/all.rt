@@ -19,6 +19,7 @@ ghost use lib.ListN.{length, getD};
 ghost use lib.Seq.{sets};
 ghost use Rattle.layout.specs.Layout.{entrySize};
 ghost use Rattle.questions.specs.View.{Roomy};
+ghost use Rattle.questions.specs.Rules.{kept};
 ghost use Rattle.questions.specs.Walk.{allSound, step, walkOf};
 ghost use Rattle.questions.specs.Found.{shown};
 ghost use Rattle.questions.specs.Single.{entryFine};
@@ -38,17 +39,17 @@ fn refused(r: Refusal) -> Full
 }
 
 // An entry at byte p that covers t is noted for its quark.
-fn note(found: &mut [u32; 4096], t: u64, p: usize, e: Entry)
-    requires { ⌜ p + entrySize ≤ 4294967296 ⌝ }
+fn note(found: &mut [u32], t: u64, p: usize, e: Entry)
+    requires { ⌜ (p + entrySize ≤ 4294967296) × (e .quark .0 < length (now found)) ⌝ }
     ensures { λ _. ⌜ now (found .exit) ≡ note t p e (now (found .entry)) ⌝ }
 {
-    if (e.quark.0 < 4096) & rules::covers(t, e) {
+    if rules::covers(t, e) {
         let q = e.quark.0 as usize;
         found[q] = one::more(found[q], p);
     }
 }
 
-// Each of a node's entries is read once, for R6 and for its quark.
+// Each of a node's entries is read once, for R6 and for its quark, up to the first that breaks R6: what was noted matters only where none does.
 fn look(
     nodes: &[u8],
     attributes: u32,
@@ -56,28 +57,29 @@ fn look(
     t: u64,
     at: usize,
     n: u32,
-    found: &mut [u32; 4096],
+    found: &mut [u32],
 ) -> bool
-    requires { ⌜ (at + entrySize * n ≤ length (now nodes)) × (at + entrySize * n ≤ 4294967296) ⌝ }
-    ensures { λ r. ⌜ (r ≡ allSound (now (nodes .entry)) attributes h at n true) × (now (found .exit) ≡ noteAll (now (nodes .entry)) t at n (now (found .entry))) ⌝ }
+    requires { ⌜ (at + entrySize * n ≤ length (now nodes)) × (at + entrySize * n ≤ 4294967296) × (attributes ≤ length (now found)) ⌝ }
+    ensures { λ r. ⌜ (r ≡ allSound (now (nodes .entry)) attributes h at n true) × (r ≡ true → now (found .exit) ≡ noteAll (now (nodes .entry)) t at n (now (found .entry))) ⌝ }
 {
-    let mut sound = true;
     let mut i: u32 = 0;
     let mut p = at;
     while i < n {
         let e = layout::read_entry(nodes, p);
-        sound = sound & rules::entry_sound(attributes, h, e);
+        if !rules::entry_sound(attributes, h, e) {
+            return false;
+        }
         note(found, t, p, e);
         p += layout::ENTRY;
         i += 1;
     }
-    sound
+    true
 }
 
 // Enters the node at which the walk stands, of which a level is due.
-fn enter(nodes: &[u8], v: View, t: u64, level: u32, w: Walk, found: &mut [u32; 4096]) -> Walk
-    requires { ⌜ Roomy v (now nodes) × (w .place .0 < v .used) × (w .entered < 65536) ⌝ }
-    ensures { λ r. ⌜ (r ≡ step (now (nodes .entry)) v t level w) × (now (found .exit) ≡ noteAt (now (nodes .entry)) v t level w (now (found .entry))) ⌝ }
+fn enter(nodes: &[u8], v: View, t: u64, level: u32, w: Walk, found: &mut [u32]) -> Walk
+    requires { ⌜ Roomy v (now nodes) × (w .place .0 < v .used) × (w .entered < 65536) × (v .attributes ≤ length (now found)) ⌝ }
+    ensures { λ r. ⌜ (r ≡ step (now (nodes .entry)) v t level w) × (kept (r .rule) ≡ true → now (found .exit) ≡ noteAt (now (nodes .entry)) v t level w (now (found .entry))) ⌝ }
 {
     let at = record::sound::stands_at(w.place.0, v.shape);
     let h = layout::read_header(nodes, at);
@@ -92,9 +94,9 @@ fn enter(nodes: &[u8], v: View, t: u64, level: u32, w: Walk, found: &mut [u32; 4
     steps::descend(nodes, v, t, h, at, w)
 }
 
-fn walk_all(nodes: &[u8], v: View, t: u64, found: &mut [u32; 4096]) -> Walk
-    requires { ⌜ Roomy v (now nodes) ⌝ }
-    ensures { λ r. ⌜ (r ≡ walkOf (now (nodes .entry)) v t) × (now (found .exit) ≡ foundAll (now (nodes .entry)) v t (now (found .entry))) ⌝ }
+fn walk_all(nodes: &[u8], v: View, t: u64, found: &mut [u32]) -> Walk
+    requires { ⌜ Roomy v (now nodes) × (v .attributes ≤ length (now found)) ⌝ }
+    ensures { λ r. ⌜ (r ≡ walkOf (now (nodes .entry)) v t) × (kept (r .rule) ≡ true → now (found .exit) ≡ foundAll (now (nodes .entry)) v t (now (found .entry))) ⌝ }
 {
     let mut w = steps::root(v);
     let mut n = v.level + 1;
@@ -109,8 +111,8 @@ fn walk_all(nodes: &[u8], v: View, t: u64, found: &mut [u32; 4096]) -> Walk
 }
 
 // An ongoing state that starts at or below t is noted.
-fn begin(found: &mut [u32; 4096], q: u32, start: u64, t: u64)
-    requires { ⌜ q < 4096 ⌝ }
+fn begin(found: &mut [u32], q: u32, start: u64, t: u64)
+    requires { ⌜ q < length (now found) ⌝ }
     ensures { λ _. ⌜ now (found .exit) ≡ begun q start t (now (found .entry)) ⌝ }
 {
     if start <= t {
@@ -120,8 +122,8 @@ fn begin(found: &mut [u32; 4096], q: u32, start: u64, t: u64)
 }
 
 // The ongoing entries are tested, and those that start at or below t noted; once finished none is read.
-fn note_ongoing(table: &[u8], v: View, t: u64, found: &mut [u32; 4096]) -> bool
-    requires { ⌜ (v .attributes ≤ 4096) × (v .finished ≡ false → v .attributes ≤ length (now table) / entrySize) ⌝ }
+fn note_ongoing(table: &[u8], v: View, t: u64, found: &mut [u32]) -> bool
+    requires { ⌜ (v .attributes ≤ length (now found)) × (v .finished ≡ false → v .attributes ≤ length (now table) / entrySize) ⌝ }
     ensures { λ r. ⌜ (r ≡ everyQuark (λ q. entryFine v q (now (table .entry))) (v .attributes)) × (r ≡ true → now (found .exit) ≡ allBegun v t (now (table .entry)) (now (found .entry))) ⌝ }
 {
     if v.finished {
@@ -140,8 +142,8 @@ fn note_ongoing(table: &[u8], v: View, t: u64, found: &mut [u32; 4096]) -> bool
 }
 
 // R7 of the first n quarks.
-fn all_one(found: &[u32; 4096], n: u32) -> bool
-    requires { ⌜ n ≤ 4096 ⌝ }
+fn all_one(found: &[u32], n: u32) -> bool
+    requires { ⌜ n ≤ length (now found) ⌝ }
     ensures { λ r. ⌜ r ≡ everyQuark (λ q. shown (getD (now (found .entry)) q 0)) n ⌝ }
 {
     let mut i: u32 = 0;
@@ -167,15 +169,8 @@ fn entry_for(nodes: &[u8], table: &[u8], q: u32, s: u32) -> Entry
     layout::read_entry(nodes, (s - 1) as usize)
 }
 
-fn write_entries(
-    nodes: &[u8],
-    table: &[u8],
-    found: &[u32; 4096],
-    answer: &mut [u8],
-    at: usize,
-    n: u32,
-)
-    requires { ⌜ (n ≤ 4096) × (at + entrySize * n ≤ length (now answer)) × ((q : ℕ) → q < n → Readable (now nodes) (now table) q (getD (now found) q 0)) ⌝ }
+fn write_entries(nodes: &[u8], table: &[u8], found: &[u32], answer: &mut [u8], at: usize, n: u32)
+    requires { ⌜ (n ≤ length (now found)) × (at + entrySize * n ≤ length (now answer)) × ((q : ℕ) → q < n → Readable (now nodes) (now table) q (getD (now found) q 0)) ⌝ }
     ensures { λ _. ⌜ now (answer .exit) ≡ sets (now (answer .entry)) at (entriesFrom (now (nodes .entry)) (now (table .entry)) (now (found .entry)) 0 n) ⌝ }
 {
     let mut i: u32 = 0;
@@ -189,28 +184,52 @@ fn write_entries(
     }
 }
 
-// The ongoing entries, one walk for all attributes, R7; then, and only then, the entries are written, from index at of the answer on.
-pub fn walked(v: View, t: u64, nodes: &[u8], table: &[u8], answer: &mut [u8], at: usize) -> Full
-    requires { ⌜ Roomy v (now nodes) × (v .finished ≡ false → v .attributes ≤ length (now table) / entrySize) × (at + entrySize * v .attributes ≤ length (now answer)) ⌝ }
+// The ongoing entries, one walk for all attributes, R7; then, and only then, the entries are written, from index at of the answer on. Found is lent with nothing found yet.
+fn walked_in(
+    v: View,
+    t: u64,
+    nodes: &[u8],
+    table: &[u8],
+    answer: &mut [u8],
+    at: usize,
+    found: &mut [u32],
+) -> Full
+    requires { ⌜ Roomy v (now nodes) × (v .finished ≡ false → v .attributes ≤ length (now table) / entrySize) × (at + entrySize * v .attributes ≤ length (now answer)) × (v .attributes ≤ length (now found)) × ((q : ℕ) → q < v .attributes → getD (now found) q 0 ≡ 0) ⌝ }
     ensures { λ r. ⌜ (r ≡ walkedFull v t (now (nodes .entry)) (now (table .entry))) × (now (answer .exit) ≡ walkedWritten v t (now (nodes .entry)) (now (table .entry)) at (now (answer .entry))) ⌝ }
 {
-    let mut found = [0u32; 4096];
-    if !note_ongoing(table, v, t, &mut found) {
+    if !note_ongoing(table, v, t, found) {
         return refused(Refusal::Damaged);
     }
-    let w = walk_all(nodes, v, t, &mut found);
+    let w = walk_all(nodes, v, t, found);
     let rule = w.rule;
     if !rules::kept(rule) {
         return refused(Refusal::Damaged);
     }
-    if !all_one(&found, v.attributes) {
+    if !all_one(found, v.attributes) {
         return refused(Refusal::Damaged);
     }
-    write_entries(nodes, table, &found, answer, at, v.attributes);
+    write_entries(nodes, table, found, answer, at, v.attributes);
     Full {
         refusal: Refusal::Nothing,
         nodes: w.entered,
     }
+}
+
+// What was found lies in an array that is not much longer than the attributes are many: clearing all 4096 numbers would cost a small history more than the walk.
+pub fn walked(v: View, t: u64, nodes: &[u8], table: &[u8], answer: &mut [u8], at: usize) -> Full
+    requires { ⌜ Roomy v (now nodes) × (v .finished ≡ false → v .attributes ≤ length (now table) / entrySize) × (at + entrySize * v .attributes ≤ length (now answer)) ⌝ }
+    ensures { λ r. ⌜ (r ≡ walkedFull v t (now (nodes .entry)) (now (table .entry))) × (now (answer .exit) ≡ walkedWritten v t (now (nodes .entry)) (now (table .entry)) at (now (answer .entry))) ⌝ }
+{
+    if v.attributes <= 64 {
+        let mut few = [0u32; 64];
+        return walked_in(v, t, nodes, table, answer, at, &mut few);
+    }
+    if v.attributes <= 512 {
+        let mut some = [0u32; 512];
+        return walked_in(v, t, nodes, table, answer, at, &mut some);
+    }
+    let mut found = [0u32; 4096];
+    walked_in(v, t, nodes, table, answer, at, &mut found)
 }
 
 pub fn full(h: History, t: u64, nodes: &[u8], table: &[u8], answer: &mut [u8]) -> Full

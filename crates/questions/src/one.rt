@@ -17,8 +17,9 @@ ghost use mathlib.Core.Bool.{true, false};
 ghost use lib.ListN.{length};
 ghost use Rattle.layout.specs.Layout.{entrySize};
 ghost use Rattle.questions.specs.View.{Roomy};
+ghost use Rattle.questions.specs.Rules.{kept};
 ghost use Rattle.questions.specs.Walk.{allSound, step, walkOf};
-ghost use Rattle.questions.specs.Found.{more, noted, look, lookAt, foundOf, shown};
+ghost use Rattle.questions.specs.Found.{more, look, lookAt, foundOf, shown};
 ghost use Rattle.questions.specs.Single.{refusedSingle, walkedSingle, viewSingle, singleOf};
 
 // What was found for a quark: 0 nothing, p + 1 the one entry at byte p, MANY more than one.
@@ -43,18 +44,7 @@ pub fn more(s: u32, p: usize) -> u32
     if s == 0 { (p + 1) as u32 } else { MANY }
 }
 
-fn noted(quark: Quark, t: u64, p: usize, e: Entry, s: u32) -> u32
-    requires { ⌜ p + entrySize ≤ 4294967296 ⌝ }
-    ensures { λ r. ⌜ r ≡ noted (quark .0) t p e s ⌝ }
-{
-    if (e.quark.0 == quark.0) & rules::covers(t, e) {
-        more(s, p)
-    } else {
-        s
-    }
-}
-
-// Each of a node's entries is read once, for R6 and for the quark asked.
+// Each of a node's entries is read once, for R6 and for the quark asked, up to the first that breaks R6: what was found matters only where none does.
 fn look(
     nodes: &[u8],
     attributes: u32,
@@ -66,21 +56,29 @@ fn look(
     found: u32,
 ) -> Seen
     requires { ⌜ (at + entrySize * n ≤ length (now nodes)) × (at + entrySize * n ≤ 4294967296) ⌝ }
-    ensures { λ r. ⌜ (r .sound ≡ allSound (now (nodes .entry)) attributes h at n true) × (r .found ≡ look (now (nodes .entry)) (quark .0) t at n found) ⌝ }
+    ensures { λ r. ⌜ (r .sound ≡ allSound (now (nodes .entry)) attributes h at n true) × (r .sound ≡ true → r .found ≡ look (now (nodes .entry)) (quark .0) t at n found) ⌝ }
 {
-    let mut sound = true;
     let mut s = found;
     let mut i: u32 = 0;
     let mut p = at;
     while i < n {
         let e = layout::read_entry(nodes, p);
-        sound = sound & rules::entry_sound(attributes, h, e);
-        s = noted(quark, t, p, e, s);
+        if !rules::entry_sound(attributes, h, e) {
+            return Seen {
+                sound: false,
+                found: s,
+            };
+        }
+        if e.quark.0 == quark.0 {
+            if rules::covers(t, e) {
+                s = more(s, p);
+            }
+        }
         p += layout::ENTRY;
         i += 1;
     }
     Seen {
-        sound: sound,
+        sound: true,
         found: s,
     }
 }
@@ -88,7 +86,7 @@ fn look(
 // Enters the node at which the walk stands, of which a level is due.
 fn enter(nodes: &[u8], v: View, quark: Quark, t: u64, level: u32, w: Walk, found: u32) -> Told
     requires { ⌜ Roomy v (now nodes) × (w .place .0 < v .used) × (w .entered < 65536) ⌝ }
-    ensures { λ r. ⌜ (r .walk ≡ step (now (nodes .entry)) v t level w) × (r .found ≡ lookAt (now (nodes .entry)) v (quark .0) t level w found) ⌝ }
+    ensures { λ r. ⌜ (r .walk ≡ step (now (nodes .entry)) v t level w) × (kept (r .walk .rule) ≡ true → r .found ≡ lookAt (now (nodes .entry)) v (quark .0) t level w found) ⌝ }
 {
     let at = record::sound::stands_at(w.place.0, v.shape);
     let h = layout::read_header(nodes, at);
@@ -127,7 +125,7 @@ fn enter(nodes: &[u8], v: View, quark: Quark, t: u64, level: u32, w: Walk, found
 
 fn walk_for(nodes: &[u8], v: View, quark: Quark, t: u64) -> Told
     requires { ⌜ Roomy v (now nodes) ⌝ }
-    ensures { λ r. ⌜ (r .walk ≡ walkOf (now (nodes .entry)) v t) × (r .found ≡ foundOf (now (nodes .entry)) v (quark .0) t) ⌝ }
+    ensures { λ r. ⌜ (r .walk ≡ walkOf (now (nodes .entry)) v t) × (kept (r .walk .rule) ≡ true → r .found ≡ foundOf (now (nodes .entry)) v (quark .0) t) ⌝ }
 {
     let mut w = steps::root(v);
     let mut s: u32 = 0;

@@ -49,11 +49,25 @@ pub fn kept(rule: Rule) -> bool
 pub fn entry_sound(attributes: u32, h: Header, e: Entry) -> bool
     ensures { λ r. ⌜ r ≡ entrySound attributes h e ⌝ }
 {
-    (e.quark.0 < attributes)
-        & transient::state_sound(e.kind, e.value)
-        & (e.start <= e.end)
-        & (h.start <= e.start)
-        & (e.end <= h.end)
+    if attributes <= e.quark.0 {
+        return false;
+    }
+    if e.start < h.start {
+        return false;
+    }
+    if e.end < e.start {
+        return false;
+    }
+    if h.end < e.end {
+        return false;
+    }
+    if e.kind == 1 {
+        return true;
+    }
+    if e.kind != 0 {
+        return false;
+    }
+    e.value == 0
 }
 
 // "An open node holds every t from its start."

@@ -7,9 +7,7 @@ use layout::Child;
 use layout::Header;
 use layout::Seq;
 ghost use mathlib.Core.Path.{_≡_};
-ghost use mathlib.Core.Bool.{cond};
 ghost use Prim.Native.Nat.{_+_, _*_, _≤_, _<_};
-ghost use lib.Dec.{leb};
 ghost use lib.ListN.{length};
 ghost use Rattle.layout.specs.Layout.{childSize, nodeSize, readHeader};
 ghost use Rattle.questions.specs.View.{Roomy};
@@ -67,28 +65,22 @@ fn header_at(nodes: &[u8], v: View, place: Seq) -> Header
     layout::read_header(nodes, at)
 }
 
-fn later(start: u64, t: u64, i: u32, k: u32) -> u32
-    requires { ⌜ i < 65536 ⌝ }
-    ensures { λ r. ⌜ r ≡ cond (leb start t) (i + 1) k ⌝ }
-{
-    if start <= t { i + 1 } else { k }
-}
-
-// One more than the number of the last of n child entries, by position, with start at or below t; 0 if there is none.
+// One more than the number of the last of n child entries, by position, with start at or below t; 0 if there is none: looked for from the last entry down.
 fn pick(nodes: &[u8], at: usize, n: u32, t: u64) -> u32
     requires { ⌜ (n < 65536) × (at + childSize * n ≤ length (now nodes)) ⌝ }
     ensures { λ r. ⌜ (r ≡ pick (now (nodes .entry)) t at 0 n 0) × (r ≤ n) ⌝ }
 {
-    let mut k: u32 = 0;
-    let mut i: u32 = 0;
-    let mut p = at;
-    while i < n {
+    let mut i = n;
+    let mut p = at + layout::CHILD * (n as usize);
+    while 0 < i {
+        p -= layout::CHILD;
         let start = words::get(nodes, p + 4, 8);
-        k = later(start, t, i, k);
-        p += layout::CHILD;
-        i += 1;
+        if start <= t {
+            return i;
+        }
+        i -= 1;
     }
-    k
+    0
 }
 
 // To the child c: its place is tested before its header is read.

@@ -20,17 +20,17 @@ abbrev μ-loop : tie.MeasureT-loop
 
 returns : tie.Need-returns Inv-loop μ-loop
 returns c =
-    let f : ℕ → Bool = λ q. shown (getD (c .before .before .before .before .before .args .found .now) q 0) in
+    let f : ℕ → Bool = λ q. shown (getD (c .before .before .before .before .before .before .args .found .now) q 0) in
     sym (every-false f _ _ (c .before .before .before .loop-test .taken) (sym (c .before .one .ensures) ∙ not-true _ (c .if1 .taken)))
 
 loop-again : tie.Need-loop-again Inv-loop μ-loop
 loop-again c =
-    let f : ℕ → Bool = λ q. shown (getD (c .before .before .before .before .before .args .found .now) q 0) in
+    let f : ℕ → Bool = λ q. shown (getD (c .before .before .before .before .before .before .args .found .now) q 0) in
     (omega arith, every-more f _ (c .before .before .before .before .loop .inv .1) (sym (c .before .one .ensures) ∙ not-false _ (c .if1 .left)))
 
 returns-2 : tie.Need-returns-2 Inv-loop μ-loop
 returns-2 c =
-    let f : ℕ → Bool = λ q. shown (getD (c .before .before .args .found .now) q 0) in
+    let f : ℕ → Bool = λ q. shown (getD (c .before .before .before .args .found .now) q 0) in
     let inv = c .before .loop .inv in
     sym (inv .1) ∙ ap (everyQuark f) (omega arith)
 
@@ -40,7 +40,7 @@ all-one-spec =
     (tie.spec
     Inv-loop
     μ-loop
-    (λ c. (search needs, every-none _))
+    (λ c. (omega arith, every-none _))
     (λ c. search needs)
     (λ c. search needs)
     (λ c. search needs)

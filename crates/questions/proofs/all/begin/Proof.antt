@@ -1,5 +1,6 @@
 -- By its two cases. Assumes nothing.
 use borrow.Author.Needs.{needs}
+use lib.ListN.{length-set}
 use Rattle.questions.proofs.Tables.{begun-yes, begun-no}
 use Rattle.questions.proofs.all.begin.Statement.{statement}
 use Rattle.questions.proofs.all.begin.Tie as tie
@@ -10,5 +11,6 @@ begin-spec =
     (tie.spec
     (λ c. search needs)
     (λ c. search needs)
+    (λ c. simp length-set)
     (λ c. begun-yes _ _ _ _ (c .if1 .taken))
     (λ c. begun-no _ _ _ _ (c .if1 .left)))

@@ -21,7 +21,7 @@ abbrev μ-loop : tie.MeasureT-loop
 μ-loop nodes table found answer₀ at n i₀ p₀ answer i p = n - i
 
 entry-for-requires : tie.Need-entry-for-requires Inv-loop μ-loop
-entry-for-requires c κs = c .before .before .before .before .before .before .pre .2 (c .before .before .loop .i) (c .before .loop-test .taken)
+entry-for-requires c κs = c .before .before .before .before .before .before .before .pre .2 (c .before .before .loop .i) (c .before .loop-test .taken)
 
 loop-again : tie.Need-loop-again Inv-loop μ-loop
 loop-again c =

@@ -1,10 +1,13 @@
 -- Each `return` cites the laws of its way through `step` and `lookAt`. Assumes nothing.
 use borrow.Author.Needs.{needs}
+use mathlib.Core.Path.{refl, sym, _∙_}
 use native.Mathlib.Omega.{arith}
+use borrow.Author.Tests.{not-true, not-false}
+use Rattle.questions.specs.declared.Rule.the-variants.{R6}
 use Rattle.questions.proofs.Room.{header-room, entries-room, nodes-small}
 use Rattle.questions.proofs.Broken.{broken-fits}
-use Rattle.questions.proofs.Walks.{enter-bad, enter-unsound, enter-well}
-use Rattle.questions.proofs.Finds.{look-skips, look-node}
+use Rattle.questions.proofs.Walks.{enter-bad, enter-unsound, enter-well, ended-broken}
+use Rattle.questions.proofs.Finds.{look-node}
 use Rattle.questions.proofs.one.enter.Statement.{statement}
 use Rattle.questions.proofs.one.enter.Tie as tie
 
@@ -21,7 +24,7 @@ returns c =
     let h = b .before in
     let s = h .before .stands-at .ensures .0 in (
       enter-bad _ _ _ _ _ _ _ _ _ _ s (h .read-header .ensures) (b .broken .ensures) (k .kept .ensures) (c .before .if1 .taken) (c .ended .ensures),
-      look-skips _ _ _ _ _ _ _ _ _ _ _ s (h .read-header .ensures) (b .broken .ensures) (k .kept .ensures) (c .before .if1 .taken),
+      λ e. absurd (ended-broken _ _ _ _ (sym (k .kept .ensures) ∙ not-true _ (c .before .if1 .taken)) (c .ended .ensures) e),
     )
 
 look-requires : tie.Need-look-requires
@@ -41,7 +44,7 @@ returns-2 c =
     let h = b .before in
     let s = h .before .stands-at .ensures .0 in (
       enter-unsound _ _ _ _ _ _ _ _ _ _ s (h .read-header .ensures) (b .broken .ensures) (k .kept .ensures) _ _ (e .before .if1 .left) (e .entry-at .ensures) (l .look .ensures .0) (c .before .if2 .taken) (c .ended2 .ensures),
-      look-node _ _ _ _ _ _ _ _ _ _ _ s (h .read-header .ensures) (b .broken .ensures) (k .kept .ensures) _ _ (e .before .if1 .left) (e .entry-at .ensures) (l .look .ensures .1),
+      λ g. absurd (ended-broken _ _ R6 _ refl (c .ended2 .ensures) g),
     )
 
 descend-requires : tie.Need-descend-requires
@@ -59,7 +62,7 @@ returns-3 c =
     let h = b .before in
     let s = h .before .stands-at .ensures .0 in (
       enter-well _ _ _ _ _ _ _ _ _ _ s (h .read-header .ensures) (b .broken .ensures) (k .kept .ensures) _ _ (e .before .if1 .left) (e .entry-at .ensures) (l .look .ensures .0) (c .before .if2 .left) (c .descend .ensures),
-      look-node _ _ _ _ _ _ _ _ _ _ _ s (h .read-header .ensures) (b .broken .ensures) (k .kept .ensures) _ _ (e .before .if1 .left) (e .entry-at .ensures) (l .look .ensures .1),
+      λ g. look-node _ _ _ _ _ _ _ _ _ _ _ s (h .read-header .ensures) (b .broken .ensures) (k .kept .ensures) _ _ (e .before .if1 .left) (e .entry-at .ensures) (l .look .ensures .1 (not-false _ (c .before .if2 .left))),
     )
 
 pub enter-spec : {M : Type 1} → statement M

@@ -1,7 +1,8 @@
 -- Each `return` cites the law of its way through `walkedSingle`. Assumes nothing.
 use borrow.Author.Needs.{needs}
-use mathlib.Core.Path.{refl}
+use mathlib.Core.Path.{refl, sym, _∙_}
 use native.Mathlib.Omega.{arith}
+use borrow.Author.Tests.{not-false}
 use Rattle.questions.proofs.Finds.{near-found}
 use Rattle.questions.proofs.Singles.{walked-damaged, walked-none, walked-told}
 use Rattle.questions.proofs.one.walked.Statement.{statement}
@@ -16,10 +17,20 @@ returns-2 c =
     walked-none _ _ _ _ _ _ _ (f .0) (f .1) (c .before .before .before .before .kept .ensures) _ _ (c .before .before .one .ensures) (c .before .before .before .if1 .left) (c .before .if2 .taken) (c .refused2 .ensures)
 
 sub-read-entry : tie.Need-sub-read-entry
-sub-read-entry c = let n = near-found _ _ (c .before .before .before .before .before .before .before .before .pre) _ _ _ _ (c .before .before .before .before .before .before .walk-for .ensures .1) (c .before .before .one .ensures) (c .before .if2 .left) in omega arith
+sub-read-entry c =
+    let one = c .before .before in
+    let k = one .before .before in
+    let f = k .before .before in
+    let n = near-found _ _ (f .before .before .pre) _ _ _ _ (f .walk-for .ensures .1 (sym (k .kept .ensures) ∙ not-false _ (one .before .if1 .left))) (one .one .ensures) (c .before .if2 .left) in
+    omega arith
 
 read-entry-requires : tie.Need-read-entry-requires
-read-entry-requires c κs = let n = near-found _ _ (c .before .before .before .before .before .before .before .before .pre) _ _ _ _ (c .before .before .before .before .before .before .walk-for .ensures .1) (c .before .before .one .ensures) (c .before .if2 .left) in omega arith
+read-entry-requires c κs =
+    let one = c .before .before in
+    let k = one .before .before in
+    let f = k .before .before in
+    let n = near-found _ _ (f .before .before .pre) _ _ _ _ (f .walk-for .ensures .1 (sym (k .kept .ensures) ∙ not-false _ (one .before .if1 .left))) (one .one .ensures) (c .before .if2 .left) in
+    omega arith
 
 returns-3 : tie.Need-returns-3
 returns-3 c =
