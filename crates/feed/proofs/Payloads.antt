@@ -14,7 +14,7 @@ use mir.Val.{toZ}
 use Rattle.words.specs.Words.{num}
 use Rattle.layout.specs.declared.Quark.{Quark}
 use Rattle.feed.specs.declared.Record.{Record}
-use Rattle.feed.specs.declared.Record.the-variants.{Set, Remove, Increment, Add, Finish, Single, Full}
+use Rattle.feed.specs.declared.Record.the-variants.{Open, Set, Remove, Increment, Add, Finish, Single, Full}
 use Rattle.feed.specs.Feed.{lengthAllowed, quarkAt, openAt, setAt, Payload, payloadAt}
 
 -- ---- how long
@@ -74,6 +74,10 @@ module _ (l : List ℕ) (tag p : ℕ) (x : Payload l tag p) where
       (x .allowed)
 
 -- ---- which record
+
+pub open-read : (l : List ℕ) (p t a k c n : ℕ) → t ≡ num l p 8 → a ≡ num l (p + 8) 4 → k ≡ num l (p + 12) 2 → c ≡ num l (p + 14) 2 → n ≡ num l (p + 16) 4 → Open t a k c n ≡ openAt l p
+unfolding openAt
+open-read l p t a k c n h₁ h₂ h₃ h₄ h₅ = cc
 
 pub set-read : (l : List ℕ) (p t v : ℕ) (q : Quark) (z y : ℤ) → t ≡ num l p 8 → q ≡ quarkAt l (p + 8) → v ≡ num l (p + 12) 8 → z ≡ toZ w64 v → y ≡ z → Set t q y ≡ setAt l p
 unfolding setAt

@@ -16,7 +16,7 @@ use Rattle.layout.specs.declared.Shape.{Shape}
 use Rattle.layout.specs.declared.Header.{Header}
 use Rattle.layout.specs.declared.Child.{Child}
 use Rattle.layout.specs.declared.Entry.{Entry}
-use Rattle.layout.specs.Layout.{headerSize, childSize, entrySize, nodeSize, childAt, entryAt, bounds, counts, headerBytes, childBytes, entryBytes, readEntry}
+use Rattle.layout.specs.Layout.{headerSize, childSize, entrySize, nodeSize, childAt, entryAt, bounds, counts, headerBytes, childBytes, entryBytes, readHeader, readChild, readEntry}
 
 -- ---- lengths
 
@@ -131,6 +131,23 @@ entry-put l l₁ l₂ l₃ l₄ l₅ at v x f p₁ p₂ p₃ p₄ q p₅ =
     let k : at + 16 + 8 ≡ at + 24 = omega arith in
     let e : sets l at (le 4 (x .quark .0) ++ (le 4 (x .kind) ++ rest)) ≡ sets (sets (sets (sets (sets l at (le 4 (x .quark .0))) (at + 4) (le 4 (x .kind))) (at + 8) (le 8 (x .start))) (at + 16) (le 8 (x .end))) (at + 24) (le 8 (ofZ w64 (x .value))) = simp (sets-append, length-le, i, j, k) in
     cc (e, d)
+
+-- ---- a header and a child entry read
+
+pub header-read : (l : List ℕ) (at a b q p n m v t : ℕ)
+    → a ≡ num l at 8
+    → b ≡ num l (at + 8) 8
+    → q ≡ num l (at + 16) 4
+    → p ≡ num l (at + 20) 4
+    → n ≡ num l (at + 24) 2
+    → m ≡ num l (at + 26) 2
+    → v ≡ num l (at + 28) 1
+    → t ≡ num l (at + 29) 1
+    → record { start = a; end = b; sequence = record { 0 = q }; parent = record { 0 = p }; intervals = n; children = m; level = v; state = t } ≡ readHeader l at
+header-read l at a b q p n m v t p₁ p₂ p₃ p₄ p₅ p₆ p₇ p₈ = cc
+
+pub child-read : (l : List ℕ) (at q a : ℕ) → q ≡ num l at 4 → a ≡ num l (at + 4) 8 → record { sequence = record { 0 = q }; start = a } ≡ readChild l at
+child-read l at q a p₁ p₂ = cc
 
 -- ---- an interval entry read, its value from the eight bytes of its bits
 

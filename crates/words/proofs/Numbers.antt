@@ -50,6 +50,10 @@ get-step l at i n h k =
     ∙ ap (λ (m : ℕ). getD l (at + (i - 1)) 0 + 256 * num l m (n - i)) f
     ∙ omega arith)
 
+-- the same of what a turn has and reads
+pub get-turn : (l : List ℕ) (at i n v x : ℕ) → 0 < i → i ≤ n → v ≡ num l (at + i) (n - i) → x ≡ getD l (at + (i - 1)) 0 → v * 256 + x ≡ num l (at + (i - 1)) (n - (i - 1))
+get-turn l at i n v x h k p q = cc (get-step l at i n h k)
+
 -- the loop that reads has read nothing
 pub get-none : (l : List ℕ) (at n : ℕ) → (0 ≡ num l (at + n) (n - n)) × (0 < 256 ^ (n - n))
 unfolding num

@@ -6,7 +6,7 @@ use native.Mathlib.Omega.{arith}
 use lib.Dec.{lit<}
 use borrow.Author.Needs.{needs}
 use Rattle.words.specs.Words.{num}
-use Rattle.words.proofs.Numbers.{get-step, get-none, get-room, within-8}
+use Rattle.words.proofs.Numbers.{get-turn, get-none, get-room, within-8}
 use Rattle.words.proofs.get.Statement.{statement}
 use Rattle.words.proofs.get.Tie as tie
 
@@ -39,7 +39,7 @@ loop-again : tie.Need-loop-again Inv-loop μ-loop
 loop-again c =
     let turn = c .before .before in
     let inv = turn .before .loop .inv in
-    (omega arith, cc (get-step _ _ _ _ (turn .loop-test .taken) (inv .0)), room c)
+    (omega arith, get-turn _ _ _ _ _ _ (turn .loop-test .taken) (inv .0) (inv .1) (c .wide .ensures .0), room c)
 
 returns : tie.Need-returns Inv-loop μ-loop
 returns c =
