@@ -148,6 +148,7 @@ fn main() {
         println!("\nHow cost grows {}", how);
         print(&lines, 3);
     }
-    instead::print(&mut seeded);
-    comb::print(&mut seeded);
+    // Their figures stand in the papers: they do not depend on what was drawn before them.
+    instead::print(&mut Seeded::case(seed(), 1));
+    comb::print(&mut Seeded::case(seed(), 2));
 }
