@@ -17,6 +17,7 @@ use Rattle.build.specs.declared.settle.Verdict.{Verdict}
 use Rattle.build.specs.declared.settle.Verdict.the-variants.{Here, Chain, Close}
 use Rattle.build.specs.Settle.{ruled, followed, plan, askUp, lowest, settle, needed, tooDeep, noRoom, planRefusal}
 use Rattle.build.specs.Feasible.{Feasible}
+use Rattle.build.proofs.Ways.{neither, fine}
 
 -- ═══ "Each number is given exactly then" ═══
 
@@ -205,3 +206,10 @@ feasible h s f e =
       grows = g .grows;
       keeps = g .keeps;
     }
+
+-- neither a close nor a chain: nothing new is needed, so nothing is refused
+pub straight-fine : (h : History) (s : ℕ) → Firm h → settle h s .closes ≡ 0 → settle h s .chain ≡ false → planRefusal h (settle h s) ≡ Nothing
+straight-fine h s f z c =
+    let p = settle h s in
+    let g = sensible h s (f .ordered) .stays z in
+    sym (fine h p (omega (arith, g .1, f .top)) 0 (neither (h .top) p (g .1) c) (omega arith))

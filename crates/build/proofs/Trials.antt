@@ -21,8 +21,8 @@ use Rattle.build.specs.Settle.{settle, planRefusal}
 use Rattle.build.specs.Feasible.{Feasible}
 use Rattle.build.specs.Trial.{riseOn, climbOn, descendOn, placedOn, planned, tried}
 use Rattle.build.specs.Carried.{Alike, Climbing, Hanging, Landed}
-use Rattle.build.proofs.Carried.{rise-closes, rise-raises, raise-needs, landed, chain-empty, planned-firm, planned-alike, planned-long}
-use Rattle.build.proofs.Plans.{feasible, then-nothing}
+use Rattle.build.proofs.Carried.{rise-closes, rise-raises, raise-needs, landed, chain-empty, climb-none, planned-firm, planned-alike, planned-long}
+use Rattle.build.proofs.Plans.{feasible, straight-fine, then-nothing}
 
 -- ═══ One level up ═══
 
@@ -106,6 +106,17 @@ module _ (h : History) (s e : ℕ) (p : Plan) (r : Refusal) (settled : p ≡ set
   pub tried-accepted : (g : History) → r ≡ Nothing → g ≡ planned p e h → _≡_ {A = Tried} (record { refusal = Nothing; history = g }) (tried h s e)
   unfolding tried
   tried-accepted g x y = simp (← settled, ← is, x, y)
+
+-- neither a close nor a chain: the interval goes straight to its node
+module _ (h : History) (s : ℕ) (p : Plan) (settled : p ≡ settle h s) (f : Firm h) (z : p .closes ≡ 0) (c : p .chain ≡ false) where
+  pub straight-accepted : planRefusal h p ≡ Nothing
+  straight-accepted = rw settled (straight-fine h s f (rw settled at z) (rw settled at c))
+
+  pub straight-can : Feasible h p
+  straight-can = tried-can h s 0 p _ settled refl f straight-accepted
+
+  pub straight-tried : (e : ℕ) → _≡_ {A = Tried} (record { refusal = Nothing; history = stored (stretched h e) (p .level) }) (tried h s e)
+  straight-tried e = tried-accepted h s e p _ settled refl _ straight-accepted (plan-stored h p e h _ (climb-none h _ z) refl _ c refl)
 
 -- ═══ What a trial keeps ═══
 

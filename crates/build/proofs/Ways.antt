@@ -15,7 +15,7 @@ use Rattle.build.specs.declared.Plan.{Plan}
 use Rattle.build.specs.declared.settle.Verdict.{Verdict}
 use Rattle.build.specs.declared.settle.Verdict.the-variants.{Here, Chain, Close}
 use Rattle.build.specs.Settle.{ruled, followed, askUp, lowest, settle, needed, planRefusal}
-use Rattle.build.specs.Lent.{ruledBy, begun, lent}
+use Rattle.build.specs.Lent.{ruledBy, begun, lent, pieces}
 
 pub ruleset tests = (le-ltb, lt-ltb, le-leb, lt-leb)
 
@@ -87,6 +87,18 @@ unfolding settle
 settled h s l r e f =
     let at : lowest (h .top - h .low) (h .branch) s (h .low) ≡ l = begun-lowest (h .top - h .low) (h .branch) s (h .low) ∙ sym e in
     rw at (f ∙ sym (lent-asked (h .top - l) h s l (ltb (h .low) l) (lastEndAt (h .branch) l) 0))
+
+-- a record is settled as one of the same pieces
+on-lent : (h : History) (s : ℕ)
+    → (let l = lowest (h .top - h .low) (begun (h .branch .starts)) s (h .low) in
+    askUp (h .top - l) (lent (h .branch .intervals) (h .branch .children) (h .shape) (h .low) (h .top) (h .«largest_end»)) s l (ltb (h .low) l) (lastEndAt (h .branch) l) 0)
+    ≡ settle h s
+on-lent h s = settled h s _ _ refl refl
+
+pub settled-on : (h : History) (s : ℕ) (r : Plan)
+    → r ≡ settle (pieces (h .branch .starts) (h .branch .intervals) (h .branch .children) (h .branch .«last_ends») (h .shape) (h .low) (h .top) (h .«largest_end»)) s → r ≡ settle h s
+settled-on h s r e =
+    e ∙ sym (on-lent (pieces (h .branch .starts) (h .branch .intervals) (h .branch .children) (h .branch .«last_ends») (h .shape) (h .low) (h .top) (h .«largest_end»)) s) ∙ on-lent h s
 
 -- ═══ Depth and room ═══
 

@@ -32,3 +32,18 @@ lent intervals children shape low top largest = record {
   finished = false;
   branch = record { places = []; starts = []; intervals = intervals; children = children; «last_ends» = [] };
 }
+
+-- a record with these pieces, of which `settle` reads no more
+abbrev pub pieces : List ℕ → List ℕ → List ℕ → List ℕ → Shape → ℕ → ℕ → ℕ → History
+pieces starts intervals children lastEnds shape low top largest = record {
+  shape = shape;
+  start = 0;
+  latest = 0;
+  «largest_end» = largest;
+  attributes = 0;
+  used = 0;
+  low = low;
+  top = top;
+  finished = false;
+  branch = record { places = []; starts = starts; intervals = intervals; children = children; «last_ends» = lastEnds };
+}

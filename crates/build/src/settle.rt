@@ -7,7 +7,7 @@ ghost use mathlib.Core.Path.{_≡_};
 ghost use mathlib.Core.Bool.{true, false};
 ghost use Prim.Native.Nat.{_+_, _-_, _≤_, _<_};
 ghost use Rattle.build.specs.Settle.{askUp, lowest, settle, needed, planRefusal};
-ghost use Rattle.build.specs.Lent.{ruledBy, begun, lent};
+ghost use Rattle.build.specs.Lent.{ruledBy, begun, lent, pieces};
 
 // What rules 1 and 2 say of a node.
 pub enum Verdict {
@@ -119,27 +119,55 @@ fn seek(starts: &[u64; 16], s: u64, low: u32, top: u32) -> u32
     level
 }
 
-// What is to be done to store an interval that starts at s.
+// What is to be done to store an interval that starts at s, by one who is lent the pieces that this reads and keeps the counts beside the record.
+pub fn settle_on<'a>(
+    starts: &'a [u64; 16],
+    intervals: &'a [u16; 16],
+    children: &'a [u16; 16],
+    last_ends: &'a [u64; 16],
+    shape: Shape,
+    low: u32,
+    top: u32,
+    largest: u64,
+    s: u64,
+) -> Plan
+    requires { ⌜ (low ≤ top) × (top < 16) ⌝ }
+    ensures { λ r. ⌜ r ≡ settle (pieces (now (starts .entry)) (now (intervals .entry)) (now (children .entry)) (now («last_ends» .entry)) shape low top largest) s ⌝ }
+{
+    let level = seek(starts, s, low, top);
+    let i = level as usize;
+    let last = last_ends[i];
+    ask(
+        intervals,
+        children,
+        shape,
+        low,
+        top,
+        largest,
+        s,
+        level,
+        low < level,
+        last,
+        0,
+    )
+}
+
+// The same, of a record.
 pub fn settle(h: History, s: u64) -> Plan
     requires { ⌜ (h .low ≤ h .top) × (h .top < 16) ⌝ }
     ensures { λ r. ⌜ r ≡ settle h s ⌝ }
 {
     let b = h.branch;
-    let level = seek(&b.starts, s, h.low, h.top);
-    let i = level as usize;
-    let last = b.last_ends[i];
-    ask(
+    settle_on(
+        &b.starts,
         &b.intervals,
         &b.children,
+        &b.last_ends,
         h.shape,
         h.low,
         h.top,
         h.largest_end,
         s,
-        level,
-        h.low < level,
-        last,
-        0,
     )
 }
 

@@ -5,3 +5,4 @@ pub mod Additions
 pub mod Finishes
 pub mod Exactly
 pub mod Kept
+pub mod Counts

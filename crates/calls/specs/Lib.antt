@@ -5,3 +5,4 @@ pub mod Parts
 pub mod Add
 pub mod Finish
 pub mod Exactly
+pub mod Counts

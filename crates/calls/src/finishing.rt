@@ -1,6 +1,7 @@
 // Finishing a history.
 use crate::Answer;
 use layout::Quark;
+use record::Branch;
 use record::History;
 use record::Refusal;
 ghost use mathlib.Core.Path.{_≡_};
@@ -11,6 +12,7 @@ ghost use Rattle.record.specs.Sound.{lastTime};
 ghost use Rattle.record.specs.Firm.{Firm};
 ghost use Rattle.build.specs.Moves.{held, Room};
 ghost use Rattle.calls.specs.Outcome.{Comes};
+ghost use Rattle.calls.specs.Counts.{withCounts};
 ghost use Rattle.calls.specs.Finish.{allSound, trial, finishRefusal, storedFrom, finishOf};
 
 // Every entry below the attribute count is read, and all have to be sound.
@@ -29,21 +31,69 @@ fn all_sound(h: History, table: &[u8]) -> bool
     true
 }
 
+// The record with these interval counts and this largest end, which the two loops below keep beside it: an interval that needs neither
+// a close nor a chain changes no more, and no record is copied for it.
+fn with_counts(h: History, intervals: [u16; 16], largest: u64) -> History
+    ensures { λ r. ⌜ r ≡ withCounts h intervals largest ⌝ }
+{
+    let b = h.branch;
+    let places = b.places;
+    let starts = b.starts;
+    let children = b.children;
+    let ends = b.last_ends;
+    let branch = Branch {
+        places: places,
+        starts: starts,
+        intervals: intervals,
+        children: children,
+        last_ends: ends,
+    };
+    let mut g = h;
+    g.largest_end = largest;
+    g.branch = branch;
+    g
+}
+
 // The trial run: "In finish the first interval in quark order that breaks either decides, depth before room." Nothing is written.
 fn trial(h: History, table: &[u8], t: u64) -> Refusal
     requires { ⌜ Firm h × (h .attributes ≤ length (now table) / entrySize) × (t ≤ lastTime) ⌝ }
     ensures { λ r. ⌜ r ≡ trial (h .attributes) 0 (now (table .entry)) t h ⌝ }
 {
     let mut g = h;
+    let mut b = h.branch;
+    let mut intervals = b.intervals;
+    let mut largest = h.largest_end;
     let mut q: u32 = 0;
     while q < h.attributes {
         let o = transient::read_ongoing(table, Quark(q));
-        let r = build::trial::tried(g, o.start, t);
-        let what = r.refusal;
-        let Refusal::Nothing = what else {
-            return what;
-        };
-        g = r.history;
+        let p = build::settle::settle_on(
+            &b.starts,
+            &intervals,
+            &b.children,
+            &b.last_ends,
+            g.shape,
+            g.low,
+            g.top,
+            largest,
+            o.start,
+        );
+        if (p.closes == 0) & !p.chain {
+            let i = p.level as usize;
+            intervals[i] = intervals[i] + 1;
+            if largest < t {
+                largest = t;
+            }
+        } else {
+            let r = build::trial::tried(with_counts(g, intervals, largest), o.start, t);
+            let what = r.refusal;
+            let Refusal::Nothing = what else {
+                return what;
+            };
+            g = r.history;
+            b = g.branch;
+            intervals = b.intervals;
+            largest = g.largest_end;
+        }
         q += 1;
     }
     Refusal::Nothing
