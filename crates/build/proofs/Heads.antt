@@ -1,10 +1,11 @@
 -- Headers and entries made from the record, and where they are written. Assumes nothing.
 use Prim.Native.Nat.{ℕ, _+_, _*_, _≤_, _<_}
-use mathlib.Core.Path.{_≡_, ap, _∙_}
+use mathlib.Core.Path.{_≡_, refl, ap, _∙_}
 use mathlib.Core.List.{List}
 use native.Mathlib.Omega.{arith}
 use lib.ListN.{length}
-use lib.Seq.{sets}
+use lib.Seq.{sets, length-sets, getD-set-same}
+use Rattle.layout.specs.declared.Shape.{Shape}
 use Rattle.layout.specs.declared.Seq.{Seq}
 use Rattle.layout.specs.declared.Header.{Header}
 use Rattle.layout.specs.declared.Entry.{Entry}
@@ -15,9 +16,10 @@ use Rattle.layout.proofs.Parts.{header-room, child-room, entry-room}
 use Rattle.record.specs.declared.History.{History}
 use Rattle.record.specs.Levels.{seqAt, startAt, intervalsAt, childrenAt}
 use Rattle.record.specs.Firm.{Shaped}
-use Rattle.record.specs.Moves.{closed, raised, made, stored}
+use Rattle.record.specs.Moves.{withBranch, levelStored, closed, raised, made, stored}
 use Rattle.record.proofs.Room.{nodes-room}
 use Rattle.build.specs.Moves.{held, openEnd, parentAt, headOf, standsAt, Standing, Room, putHead, putNew, withChild, close, raise, make, store}
+use Rattle.build.specs.Lent.{parentOn, storedOn}
 use Rattle.build.proofs.Stands.{length-head}
 
 -- a level's header, with the parent that was found
@@ -81,3 +83,29 @@ pub store-done : (h g : History) (e : Entry) (l at slot : ℕ) (b c d : List ℕ
     → c ≡ putHead g l openEnd 1 b → d ≡ sets c (at + slot) (entryBytes e) → (g ≡ store e l (held h b) .history) × (d ≡ store e l (held h b) .nodes)
 unfolding store
 store-done h g e l at slot b c d i j k m n = (i, n ∙ rw (m, j, k, i))
+
+-- ---- a node that takes an interval, by one who is lent its pieces
+
+module _ (sh : Shape) (b : List ℕ) (shaped : Shaped sh) (has : sh .n * nodeSize sh ≤ length b) (at : ℕ) (room : at + nodeSize sh ≤ sh .n * nodeSize sh) where
+  pub on-head-inside : at + headerSize ≤ length b
+  on-head-inside = omega (arith, header-room sh, has)
+
+  module _ (slot j : ℕ) (lt : j < sh .k) (is : slot ≡ entryAt sh j) where
+    pub on-entry-small : at + slot ≤ 4294967296
+    on-entry-small = omega (arith, entry-room sh j lt, nodes-room (sh .n) (nodeSize sh) (shaped .nodes) (shaped .size))
+
+    pub on-entry-inside : (head : Header) (c : List ℕ) → c ≡ sets b at (headerBytes head) → at + slot + entrySize ≤ length c
+    on-entry-inside head c put = omega (arith, entry-room sh j lt, has, ap length put ∙ length-sets b at (headerBytes head))
+
+pub on-store-done : (sh : Shape) (place parent : Seq) (start intervals children level : ℕ) (e : Entry) (at slot : ℕ) (b c d : List ℕ) → at ≡ place .0 * nodeSize sh → slot ≡ entryAt sh intervals
+    → c ≡ sets b at (headerBytes (record { start = start; end = openEnd; sequence = place; parent = parent; intervals = intervals + 1; children = children; level = level; state = 1 }))
+    → d ≡ sets c (at + slot) (entryBytes e) → d ≡ storedOn sh place start parent intervals children level e b
+unfolding storedOn
+on-store-done sh place parent start intervals children level e at slot b c d i j k m = m ∙ rw (k, i, j)
+
+-- it is what the record's level writes
+pub store-on : (h : History) (e : Entry) (l : ℕ) (b : List ℕ) → l < length (h .branch .intervals)
+    → storedOn (h .shape) (seqAt (h .branch) l) (startAt (h .branch) l) (parentOn (h .branch .places) (h .top) l) (intervalsAt (h .branch) l) (childrenAt (h .branch) l) l e b
+    ≡ store e l (held h b) .nodes
+unfolding storedOn parentOn store stored withBranch levelStored putHead headOf standsAt parentAt
+store-on h e l b lt = rw (getD-set-same (h .branch .intervals) l (intervalsAt (h .branch) l + 1) 0 lt) refl

@@ -1,6 +1,6 @@
 -- Storing an interval, or refusing it: each way through `insert`, and what the record and the node buffer keep. Assumes nothing.
 use Prim.Native.Nat.{ℕ, _≤_}
-use mathlib.Core.Path.{_≡_, sym, ap, _∙_}
+use mathlib.Core.Path.{_≡_, refl, sym, ap, _∙_}
 use mathlib.Core.Bool.{Bool, true, false, cond}
 use mathlib.Core.List.{List}
 use types.Run.{OneOf}
@@ -12,14 +12,16 @@ use Rattle.record.specs.declared.Refusal.the-variants.{Nothing}
 use Rattle.record.specs.Refusals.{accepted}
 use Rattle.record.specs.Sound.{lastTime}
 use Rattle.record.specs.Firm.{Firm, Long}
+use Rattle.record.specs.Moves.{stretched}
 use Rattle.record.proofs.Refusal.{the-type}
 use Rattle.build.specs.declared.Plan.{Plan}
 use Rattle.build.specs.Settle.{settle, planRefusal}
-use Rattle.build.specs.Moves.{Held, held, Room}
+use Rattle.build.specs.Moves.{Held, held, Room, store}
 use Rattle.build.specs.Write.{written, inserted}
 use Rattle.build.specs.Carried.{Alike}
-use Rattle.build.proofs.Trials.{others, refused, tried-firm, tried-alike, tried-long}
+use Rattle.build.proofs.Trials.{others, refused, straight-accepted, tried-firm, tried-alike, tried-long}
 use Rattle.build.proofs.Steps.{inserted-history, inserted-length, room-kept}
+use Rattle.build.proofs.Turns.{stays, written-here}
 
 -- ═══ Each way ═══
 
@@ -48,6 +50,15 @@ module _ (h : History) (b : List ℕ) (x : Entry) where
         let e = accepted-written (ap accepted (sym answer ∙ z)) in
         let w : written x p (held h b) ≡ inserted x (held h b) = ap (λ (r : Plan). written x r (held h b)) plan ∙ sym e in
         (sym z ∙ answer, f .0 ∙ ap (λ (τ : Held). τ .history) w, f .1 ∙ ap (λ (τ : Held). τ .nodes) w)
+
+-- neither a close nor a chain: what is inserted is what the level stores
+module _ (h : History) (b : List ℕ) (x : Entry) (p : Plan) (plan : p ≡ settle h (x .start)) (f : Firm h) (z : p .closes ≡ 0) (c : p .chain ≡ false) where
+  pub straight-inserted : (let σ = store x (p .level) (held (stretched h (x .end)) b) in (σ .history ≡ inserted x (held h b) .history) × (σ .nodes ≡ inserted x (held h b) .nodes))
+  straight-inserted =
+      let σ = store x (p .level) (held (stretched h (x .end)) b) in
+      let w = written-here h b p x h b (stays h b (p .closes) z) (stretched h (x .end)) refl (σ .history) (σ .nodes) c (refl, refl) in
+      let k = insert-stored h b x p (planRefusal h p) plan refl (straight-accepted h (x .start) p plan f z c) (σ .history) (σ .nodes) w in
+      (k .1, k .2)
 
 -- ═══ What it keeps ═══
 

@@ -4,13 +4,16 @@ use layout::Entry;
 use layout::First;
 use layout::Header;
 use layout::Seq;
+use layout::Shape;
 use record::History;
 ghost use mathlib.Core.Path.{_≡_};
 ghost use Prim.Native.Nat.{_+_, _*_, _≤_, _<_};
+ghost use lib.ListN.{length};
 ghost use Rattle.layout.specs.Layout.{nodeSize};
 ghost use Rattle.record.specs.Levels.{placeAt, intervalsAt, childrenAt};
 ghost use Rattle.record.specs.Firm.{Shaped, Firm};
 ghost use Rattle.build.specs.Moves.{parentAt, headOf, standsAt, putHead, putNew, held, Standing, Room, withChild, close, raise, make, store};
+ghost use Rattle.build.specs.Lent.{parentOn, storedOn};
 
 // "end u64 (2^64-1 while open)"
 pub const OPEN_END: u64 = 0xffff_ffff_ffff_ffff;
@@ -150,4 +153,47 @@ pub fn store(nodes: &mut [u8], h: History, e: Entry, level: u32) -> History
     let slot = layout::entry_at(h.shape, b.intervals[i] as u32);
     layout::put_entry(nodes, at + slot, e);
     g
+}
+
+// The parent of a level, of a branch with these places and this root.
+pub fn parent_on(places: [Seq; 16], top: u32, level: u32) -> Seq
+    requires { ⌜ top < 16 ⌝ }
+    ensures { λ r. ⌜ r ≡ parentOn places top level ⌝ }
+{
+    if level < top {
+        let i = (level + 1) as usize;
+        return places[i];
+    }
+    Seq(NO_PARENT)
+}
+
+// A node takes an interval, by one who keeps the counts beside the record: its header with one more than so many intervals, and the entry.
+pub fn store_on(
+    nodes: &mut [u8],
+    shape: Shape,
+    place: Seq,
+    start: u64,
+    parent: Seq,
+    intervals: u16,
+    children: u16,
+    level: u32,
+    e: Entry,
+)
+    requires { ⌜ Shaped shape × (place .0 < shape .n) × (shape .n * nodeSize shape ≤ length (now nodes)) × (level < 16) × (intervals < shape .k) ⌝ }
+    ensures { λ _. ⌜ now (nodes .exit) ≡ storedOn shape place start parent intervals children level e (now (nodes .entry)) ⌝ }
+{
+    let at = record::sound::stands_at(place.0, shape);
+    let head = Header {
+        start: start,
+        end: OPEN_END,
+        sequence: place,
+        parent: parent,
+        intervals: intervals + 1,
+        children: children,
+        level: level as u8,
+        state: 1,
+    };
+    layout::put_header(nodes, at, head);
+    let slot = layout::entry_at(shape, intervals as u32);
+    layout::put_entry(nodes, at + slot, e);
 }

@@ -105,15 +105,53 @@ fn store_all(nodes: &mut [u8], table: &[u8], h: History, t: u64) -> History
     ensures { λ r. ⌜ held r (now (nodes .exit)) ≡ storedFrom (h .attributes) 0 (now (table .entry)) t (held h (now (nodes .entry))) ⌝ }
 {
     let mut g = h;
+    let mut b = h.branch;
+    let mut intervals = b.intervals;
+    let mut largest = h.largest_end;
     let mut done: u32 = 0;
     while done < h.attributes {
         let o = transient::read_ongoing(table, Quark(done));
         let e = transient::ongoing_entry(Quark(done), o, t);
-        let r = build::write::insert(nodes, g, e);
-        g = r.history;
+        let p = build::settle::settle_on(
+            &b.starts,
+            &intervals,
+            &b.children,
+            &b.last_ends,
+            g.shape,
+            g.low,
+            g.top,
+            largest,
+            e.start,
+        );
+        if (p.closes == 0) & !p.chain {
+            let i = p.level as usize;
+            let count = intervals[i];
+            let parent = build::moves::parent_on(b.places, g.top, p.level);
+            build::moves::store_on(
+                nodes,
+                g.shape,
+                b.places[i],
+                b.starts[i],
+                parent,
+                count,
+                b.children[i],
+                p.level,
+                e,
+            );
+            intervals[i] = count + 1;
+            if largest < t {
+                largest = t;
+            }
+        } else {
+            let r = build::write::insert(nodes, with_counts(g, intervals, largest), e);
+            g = r.history;
+            b = g.branch;
+            intervals = b.intervals;
+            largest = g.largest_end;
+        }
         done += 1;
     }
-    g
+    with_counts(g, intervals, largest)
 }
 
 fn refusal(h: History, t: u64, nodes: usize, table: &[u8]) -> Refusal
