@@ -111,11 +111,11 @@ fn growing(seeded: &mut Seeded, scale: u32) -> Vec<(&'static str, Vec<Line>)> {
     }
     let mut attributes = Vec::new();
     for count in [1, 16, 256, 1_024] {
-        let name = format!("full, {} attributes, K 2,028", count);
+        let name = format!("full, K 2,028, attributes: {}", count);
         attributes.push(line(&name, finished(seeded, count, 2_028, 50, 40 * scale).fulls(seeded, (scale / 10 + 1) as usize)));
     }
     for count in [1, 16, 256, 4_096] {
-        let name = format!("finish, {} attributes, K 2,028", count);
+        let name = format!("finish, K 2,028, attributes: {}", count);
         attributes.push(line(&name, finishes(count, (scale * 40 / (count + 100) + 1) as usize)));
     }
     vec![("with the depth", depth), ("with K", nodes), ("with the attributes", attributes)]
