@@ -150,7 +150,7 @@ pub fn compare(name: &str, work: &Work) -> (Lent, Lent) {
     (ours, theirs)
 }
 
-fn nanoseconds(run: impl FnOnce()) -> f64 {
+fn nanoseconds<T>(run: impl FnOnce() -> T) -> f64 {
     let from = Instant::now();
     run();
     from.elapsed().as_nanos() as f64
@@ -164,16 +164,16 @@ pub fn times(work: &Work, ours: &mut Lent, theirs: &mut Lent, turns: usize) -> (
     let said = ours.said.clone();
     for _ in 0..turns {
         if history.finished {
-            library_best = library_best.min(nanoseconds(|| drop(library_asked(work, &history, ours))));
+            library_best = library_best.min(nanoseconds(|| library_asked(work, &history, ours)));
             let mut asked = history.clone();
             baseline_best = baseline_best.min(nanoseconds(|| carry_out(&mut asked, work, work.built, work.calls(), theirs)));
         } else {
             // Opening and building are timed alone, and taken off.
-            let built = nanoseconds(|| drop(library(work, work.built, ours)));
-            let whole = nanoseconds(|| drop(library(work, work.calls(), ours)));
+            let built = nanoseconds(|| library(work, work.built, ours));
+            let whole = nanoseconds(|| library(work, work.calls(), ours));
             library_best = library_best.min(if work.calls() > work.built { whole - built } else { whole });
-            let built = nanoseconds(|| drop(played(work, work.built, theirs)));
-            let whole = nanoseconds(|| drop(played(work, work.calls(), theirs)));
+            let built = nanoseconds(|| played(work, work.built, theirs));
+            let whole = nanoseconds(|| played(work, work.calls(), theirs));
             baseline_best = baseline_best.min(if work.calls() > work.built { whole - built } else { whole });
         }
     }
