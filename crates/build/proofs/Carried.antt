@@ -1,14 +1,14 @@
 -- A plan carried out on the record, step by step: the record stays firm, and what is left can be done. Assumes nothing.
 use Prim.Native.Nat.{ℕ, zero, suc, _+_, _-_, _≤_, _<_, max}
 use mathlib.Core.Path.{_≡_, refl, sym, ap, _∙_}
-use mathlib.Core.Bool.{Bool, true, false, cond, not, _&&_}
+use mathlib.Core.Bool.{Bool, true, false, cond}
 use mathlib.Core.List.{List, [], _∷_}
 use native.Mathlib.Numerals.{add-one}
 use native.Mathlib.Omega.{arith}
-use lib.Dec.{ltb, eqb}
+use lib.Dec.{ltb}
 use lib.ListN.{getD, set}
-use borrow.Author.Tests.{ltb-true, ltb-false, eqb-true, lt-ltb, le-ltb}
-use Rattle.record.specs.declared.History.{History}
+use borrow.Author.Tests.{ltb-true, ltb-false, lt-ltb, le-ltb}
+use Rattle.record.specs.Record.{History}
 use Rattle.record.specs.Levels.{intervalsAt, childrenAt, lastEndAt}
 use Rattle.record.specs.Moves.{levelNew, levelChild, levelClosed, withBranch, withLargest, closed, raised, made, stored, stretched}
 use Rattle.record.specs.Sound.{lastTime}
@@ -191,15 +191,6 @@ climb-beyond (suc n) h e =
     let k = climb-beyond n (closed h) (omega arith) in
     rw (rise-closes h (omega arith))
     (record { top = k .top; used = k .used; intervals = k .intervals; children = k .children })
-
--- a plan with neither a close nor a chain
-pub straight : (p : Plan) → (eqb (p .closes) 0 && not (p .chain)) ≡ true → (p .closes ≡ 0) × (p .chain ≡ false)
-straight p = go (eqb (p .closes) 0) (p .chain) (eqb-true _ _)
-  where
-    go : (a b : Bool) → (a ≡ true → p .closes ≡ 0) → (a && not b) ≡ true → (p .closes ≡ 0) × (b ≡ false)
-    go true true z e = (z refl, cc)
-    go true false z e = (z refl, refl)
-    go false b z e = (cc, cc)
 
 pub climb-none : (h : History) (n : ℕ) → n ≡ 0 → h ≡ climbOn n h
 unfolding climbOn

@@ -1,10 +1,11 @@
--- Headers and entries made from the record, and where they are written. Assumes nothing.
+-- Headers and entries made from the record as it lies in its array, and where they are written. Assumes nothing.
 use Prim.Native.Nat.{ℕ, _+_, _*_, _≤_, _<_}
-use mathlib.Core.Path.{_≡_, refl, ap, _∙_}
+use mathlib.Core.Path.{_≡_, refl, ap, sym, _∙_}
 use mathlib.Core.List.{List}
 use native.Mathlib.Omega.{arith}
-use lib.ListN.{length}
-use lib.Seq.{sets, length-sets, getD-set-same}
+use lib.ListN.{length, getD}
+use lib.Seq.{sets}
+use borrow.Author.Tests.{lt-ltb, le-ltb}
 use Rattle.layout.specs.declared.Shape.{Shape}
 use Rattle.layout.specs.declared.Seq.{Seq}
 use Rattle.layout.specs.declared.Header.{Header}
@@ -13,41 +14,42 @@ use Rattle.layout.specs.declared.First.{First}
 use Rattle.layout.specs.declared.First.the-variants.{Nothing, OneChild}
 use Rattle.layout.specs.Layout.{headerSize, childSize, entrySize, nodeSize, childAt, entryAt, headerBytes, childBytes, entryBytes, encode, newNode}
 use Rattle.layout.proofs.Parts.{header-room, child-room, entry-room}
-use Rattle.record.specs.declared.History.{History}
-use Rattle.record.specs.Levels.{seqAt, startAt, intervalsAt, childrenAt}
-use Rattle.record.specs.Firm.{Shaped}
-use Rattle.record.specs.Moves.{withBranch, levelStored, closed, raised, made, stored}
+use Rattle.record.specs.Record.{History, branchOf, recordOf, Becomes}
+use Rattle.record.specs.Levels.{intervalsAt, childrenAt}
+use Rattle.record.specs.Firm.{Firm}
+use Rattle.record.specs.Moves.{closed, raised, made, stored}
+use Rattle.record.proofs.Lies.{seq-lies, place-lies, start-lies, intervals-lie, children-lie}
 use Rattle.record.proofs.Room.{nodes-room}
-use Rattle.build.specs.Moves.{held, openEnd, parentAt, headOf, standsAt, Standing, Room, putHead, putNew, withChild, close, raise, make, store}
-use Rattle.build.specs.Lent.{parentOn, storedOn}
-use Rattle.build.proofs.Stands.{length-head}
+use Rattle.build.specs.Moves.{openEnd, parentAt, headOf, standsAt, Standing, Room, putHead, putNew, withChild, Turns, close, raise, make, store}
+use Rattle.build.proofs.Stands.{length-head, child-stands}
 
--- a level's header, with the parent that was found
-pub head-made : (h : History) (l e s : ℕ) (p : Seq) → p ≡ parentAt h l
-    → _≡_ {A = Header} (record { start = startAt (h .branch) l; end = e; sequence = seqAt (h .branch) l; parent = p; intervals = intervalsAt (h .branch) l; children = childrenAt (h .branch) l; level = l; state = s }) (headOf h l e s)
-unfolding headOf
-head-made h l e s p is = rw is
+-- ---- what is read of the array is what the record says
+
+module _ (w : List ℕ) (l : ℕ) where
+  pub parent-read : l < getD w 86 0 → getD w 86 0 < 16 → (s : Shape) → record { 0 = getD w (l + 1) 0 } ≡ parentAt (recordOf s w) l
+  unfolding parentAt
+  parent-read lt top s = rw (lt-ltb l (getD w 86 0) lt) (sym (seq-lies w (l + 1) (omega arith)))
+
+  pub parent-none : getD w 86 0 ≤ l → (s : Shape) → record { 0 = 4294967295 } ≡ parentAt (recordOf s w) l
+  unfolding parentAt
+  parent-none le s = rw (le-ltb l (getD w 86 0) le) refl
+
+  module _ (lt : l < 16) where
+    pub head-read : (e t : ℕ) (p : Seq) → ((s : Shape) → p ≡ parentAt (recordOf s w) l) → (s : Shape)
+        → _≡_ {A = Header} (record { start = getD w (16 + l) 0; end = e; sequence = record { 0 = getD w l 0 }; parent = p; intervals = getD w (32 + l) 0; children = getD w (48 + l) 0; level = l; state = t })
+        (headOf (recordOf s w) l e t)
+    unfolding headOf
+    head-read e t p is s = cc (is s, seq-lies w l lt, start-lies w l lt, intervals-lie w l lt, children-lie w l lt)
+
+    pub stands-read : (s : Shape) (at : ℕ) → at ≡ getD w l 0 * nodeSize s → at ≡ standsAt (recordOf s w) l
+    unfolding standsAt
+    stands-read s at is = is ∙ ap (λ (p : ℕ). p * nodeSize s) (sym (place-lies w l lt))
 
 -- ---- within the node at `at`, which is within the buffer
 
 module _ (h : History) (l : ℕ) (b : List ℕ) (s : Standing h l b) (at : ℕ) (room : at + nodeSize (h .shape) ≤ h .shape .n * nodeSize (h .shape)) where
   pub head-inside : at + headerSize ≤ length b
   head-inside = omega (arith, header-room (h .shape), s .room)
-
-module _ (h : History) (at : ℕ) (room : at + nodeSize (h .shape) ≤ h .shape .n * nodeSize (h .shape)) (slot : ℕ) where
-  module _ (shaped : Shaped (h .shape)) where
-    pub child-small : (j : ℕ) → j < h .shape .c → slot ≡ childAt j → at + slot ≤ 4294967296
-    child-small j lt is = omega (arith, child-room (h .shape) j lt, nodes-room (h .shape .n) (nodeSize (h .shape)) (shaped .nodes) (shaped .size))
-
-    pub entry-small : (j : ℕ) → j < h .shape .k → slot ≡ entryAt (h .shape) j → at + slot ≤ 4294967296
-    entry-small j lt is = omega (arith, entry-room (h .shape) j lt, nodes-room (h .shape .n) (nodeSize (h .shape)) (shaped .nodes) (shaped .size))
-
-  module _ (g : History) (l e s : ℕ) (b c : List ℕ) (has : Room h b) (put : c ≡ putHead g l e s b) where
-    pub child-inside : (j : ℕ) → j < h .shape .c → slot ≡ childAt j → at + slot + childSize ≤ length c
-    child-inside j lt is = omega (arith, child-room (h .shape) j lt, has, ap length put ∙ length-head g l b e s)
-
-    pub entry-inside : (j : ℕ) → j < h .shape .k → slot ≡ entryAt (h .shape) j → at + slot + entrySize ≤ length c
-    entry-inside j lt is = omega (arith, entry-room (h .shape) j lt, has, ap length put ∙ length-head g l b e s)
 
 -- ---- what was written is what the definitions say
 
@@ -59,53 +61,59 @@ pub new-put : (h : History) (l at : ℕ) (first : First) (head : Header) (b c : 
 unfolding putNew
 new-put h l at first head b c i j k = cc
 
-pub child-put : (h g : History) (a l at slot : ℕ) (b c d : List ℕ) → at ≡ standsAt h l → slot ≡ childAt (childrenAt (h .branch) l) → c ≡ putHead g l openEnd 1 b
-    → d ≡ sets c (at + slot) (childBytes (record { sequence = record { 0 = h .used }; start = a })) → d ≡ withChild h g a l b
-unfolding withChild
-child-put h g a l at slot b c d i j k m = cc
+-- ---- the four moves: `w` and `b` are the array and the buffer before, `v` is the array after
 
-pub close-done : (h g : History) (b c : List ℕ) → c ≡ putHead h (h .low) (h .«largest_end») 2 b → g ≡ closed h → (g ≡ close (held h b) .history) × (c ≡ close (held h b) .nodes)
-unfolding close
-close-done h g b c i j = (j, i)
+module _ (s : Shape) (w b v : List ℕ) where
+  pub close-done : (c : List ℕ) → c ≡ putHead (recordOf s w) (getD w 85 0) (getD w 82 0) 2 b → Becomes w v closed → Turns s w b v c close
+  unfolding close
+  close-done c put e = (e .0, e .1 s, put)
 
-pub raise-done : (h g : History) (b c d : List ℕ) → g ≡ raised h → c ≡ putHead g (h .top) (h .«largest_end») 2 b
-    → d ≡ putNew g (h .top + 1) (OneChild (record { sequence = seqAt (h .branch) (h .top); start = startAt (h .branch) (h .top) })) c
-    → (g ≡ raise (held h b) .history) × (d ≡ raise (held h b) .nodes)
-unfolding raise
-raise-done h g b c d i j k = (i, k ∙ rw (j, i))
+  pub raise-done : (c d : List ℕ) → getD w 86 0 < 16 → Becomes w v raised → c ≡ putHead (recordOf s v) (getD w 86 0) (getD w 82 0) 2 b
+      → d ≡ putNew (recordOf s v) (getD w 86 0 + 1) (OneChild (record { sequence = record { 0 = getD w (getD w 86 0) 0 }; start = getD w (16 + getD w 86 0) 0 })) c → Turns s w b v d raise
+  unfolding raise
+  raise-done c d lt e i j = (e .0, e .1 s, j ∙ rw (i, e .1 s, seq-lies w (getD w 86 0) lt, start-lies w (getD w 86 0) lt) refl)
 
-pub make-done : (h g : History) (a l : ℕ) (b c d : List ℕ) → g ≡ made h a l → c ≡ withChild h g a (l + 1) b → d ≡ putNew g l Nothing c
-    → (g ≡ make a l (held h b) .history) × (d ≡ make a l (held h b) .nodes)
-unfolding make
-make-done h g a l b c d i j k = (i, k ∙ rw (j, i))
+module _ (s : Shape) (w b : List ℕ) (at slot : ℕ) (room : at + nodeSize s ≤ s .n * nodeSize s) where
+  module _ (a l : ℕ) (p : (length w ≡ 87) × Firm (recordOf s w) × Room (recordOf s w) b × (getD w 85 0 ≡ l + 1) × (childrenAt (branchOf w) (l + 1) < s .c) × (getD w 84 0 < s .n)) (is : slot ≡ childAt (getD w (48 + (l + 1)) 0)) where
+    child-slot : slot ≡ childAt (childrenAt (branchOf w) (l + 1))
+    child-slot = is ∙ ap childAt (sym (children-lie w (l + 1) (omega (arith, p .3, p .1 .ordered, p .1 .top))))
 
-pub store-done : (h g : History) (e : Entry) (l at slot : ℕ) (b c d : List ℕ) → g ≡ stored h l → at ≡ standsAt h l → slot ≡ entryAt (h .shape) (intervalsAt (h .branch) l)
-    → c ≡ putHead g l openEnd 1 b → d ≡ sets c (at + slot) (entryBytes e) → (g ≡ store e l (held h b) .history) × (d ≡ store e l (held h b) .nodes)
-unfolding store
-store-done h g e l at slot b c d i j k m n = (i, n ∙ rw (m, j, k, i))
+    child-ends : at + slot + childSize ≤ s .n * nodeSize s
+    child-ends = omega (arith, child-room s (childrenAt (branchOf w) (l + 1)) (p .4), child-slot)
 
--- ---- a node that takes an interval, by one who is lent its pieces
+    pub child-small : at + slot ≤ 4294967296
+    child-small = omega (arith, child-ends, nodes-room (s .n) (nodeSize s) (p .1 .shaped .nodes) (p .1 .shaped .size))
 
-module _ (sh : Shape) (b : List ℕ) (shaped : Shaped sh) (has : sh .n * nodeSize sh ≤ length b) (at : ℕ) (room : at + nodeSize sh ≤ sh .n * nodeSize sh) where
-  pub on-head-inside : at + headerSize ≤ length b
-  on-head-inside = omega (arith, header-room sh, has)
+    module _ (v c : List ℕ) (put : c ≡ putHead (recordOf s v) (l + 1) openEnd 1 b) where
+      pub child-inside : at + slot + childSize ≤ length c
+      child-inside = omega (arith, child-ends, p .2, ap length put ∙ length-head (recordOf s v) (l + 1) b openEnd 1)
 
-  module _ (slot j : ℕ) (lt : j < sh .k) (is : slot ≡ entryAt sh j) where
-    pub on-entry-small : at + slot ≤ 4294967296
-    on-entry-small = omega (arith, entry-room sh j lt, nodes-room (sh .n) (nodeSize sh) (shaped .nodes) (shaped .size))
+      module _ (d : List ℕ) (stands : at ≡ standsAt (recordOf s w) (l + 1)) (e : Becomes w v (λ g. made g a l)) (with : d ≡ sets c (at + slot) (childBytes (record { sequence = record { 0 = getD w 84 0 }; start = a }))) where
+        child-put : d ≡ withChild (recordOf s w) (recordOf s v) a (l + 1) b
+        unfolding withChild
+        child-put = with ∙ rw (put, stands, child-slot) refl
 
-    pub on-entry-inside : (head : Header) (c : List ℕ) → c ≡ sets b at (headerBytes head) → at + slot + entrySize ≤ length c
-    on-entry-inside head c put = omega (arith, entry-room sh j lt, has, ap length put ∙ length-sets b at (headerBytes head))
+        pub new-stands : Standing (recordOf s v) l d
+        new-stands = child-stands (recordOf s w) b (p .1) (p .2) a l (p .3) (p .4) (p .5) (recordOf s v) d (e .1 s) child-put
 
-pub on-store-done : (sh : Shape) (place parent : Seq) (start intervals children level : ℕ) (e : Entry) (at slot : ℕ) (b c d : List ℕ) → at ≡ place .0 * nodeSize sh → slot ≡ entryAt sh intervals
-    → c ≡ sets b at (headerBytes (record { start = start; end = openEnd; sequence = place; parent = parent; intervals = intervals + 1; children = children; level = level; state = 1 }))
-    → d ≡ sets c (at + slot) (entryBytes e) → d ≡ storedOn sh place start parent intervals children level e b
-unfolding storedOn
-on-store-done sh place parent start intervals children level e at slot b c d i j k m = m ∙ rw (k, i, j)
+        pub make-done : (t : List ℕ) → t ≡ putNew (recordOf s v) l Nothing d → Turns s w b v t (make a l)
+        unfolding make
+        make-done t new = (e .0, e .1 s, new ∙ rw (child-put, e .1 s) refl)
 
--- it is what the record's level writes
-pub store-on : (h : History) (e : Entry) (l : ℕ) (b : List ℕ) → l < length (h .branch .intervals)
-    → storedOn (h .shape) (seqAt (h .branch) l) (startAt (h .branch) l) (parentOn (h .branch .places) (h .top) l) (intervalsAt (h .branch) l) (childrenAt (h .branch) l) l e b
-    ≡ store e l (held h b) .nodes
-unfolding storedOn parentOn store stored withBranch levelStored putHead headOf standsAt parentAt
-store-on h e l b lt = rw (getD-set-same (h .branch .intervals) l (intervalsAt (h .branch) l + 1) 0 lt) refl
+  module _ (l : ℕ) (p : (length w ≡ 87) × Firm (recordOf s w) × Room (recordOf s w) b × (getD w 85 0 ≤ l) × (l ≤ getD w 86 0) × (intervalsAt (branchOf w) l < s .k)) (is : slot ≡ entryAt s (getD w (32 + l) 0)) where
+    entry-slot : slot ≡ entryAt s (intervalsAt (branchOf w) l)
+    entry-slot = is ∙ ap (entryAt s) (sym (intervals-lie w l (omega (arith, p .4, p .1 .top))))
+
+    entry-ends : at + slot + entrySize ≤ s .n * nodeSize s
+    entry-ends = omega (arith, entry-room s (intervalsAt (branchOf w) l) (p .5), entry-slot)
+
+    pub entry-small : at + slot ≤ 4294967296
+    entry-small = omega (arith, entry-ends, nodes-room (s .n) (nodeSize s) (p .1 .shaped .nodes) (p .1 .shaped .size))
+
+    module _ (v c : List ℕ) (put : c ≡ putHead (recordOf s v) l openEnd 1 b) where
+      pub entry-inside : at + slot + entrySize ≤ length c
+      entry-inside = omega (arith, entry-ends, p .2, ap length put ∙ length-head (recordOf s v) l b openEnd 1)
+
+      pub store-done : (x : Entry) (d : List ℕ) → at ≡ standsAt (recordOf s w) l → Becomes w v (λ g. stored g l) → d ≡ sets c (at + slot) (entryBytes x) → Turns s w b v d (store x l)
+      unfolding store
+      store-done x d stands e with = (e .0, e .1 s, with ∙ rw (put, stands, entry-slot, e .1 s) refl)

@@ -1,3 +1,4 @@
+pub mod Taken
 pub mod Ways
 pub mod Plans
 pub mod Carried

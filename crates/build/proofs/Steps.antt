@@ -9,16 +9,15 @@ use lib.Seq.{length-sets}
 use Rattle.layout.specs.declared.Entry.{Entry}
 use Rattle.layout.specs.declared.First.the-variants.{Nothing, OneChild}
 use Rattle.record.specs.declared.Refusal.the-variants.{Nothing as Fine}
-use Rattle.record.specs.declared.History.{History}
+use Rattle.record.specs.Record.{History}
 use Rattle.record.specs.Refusals.{accepted}
 use Rattle.record.specs.Levels.{seqAt, startAt, lastEndAt}
 use Rattle.record.specs.Moves.{closed, raised, made, stored, stretched}
 use Rattle.build.specs.declared.Plan.{Plan}
-use Rattle.build.specs.declared.Tried.{Tried}
 use Rattle.build.specs.Settle.{settle, planRefusal}
 use Rattle.build.specs.Moves.{Held, Room, putHead, withChild, close, raise, make, store}
 use Rattle.build.specs.Write.{rise, climb, descend, stretch, chained, placed, written, inserted, closeAll, planted}
-use Rattle.build.specs.Trial.{riseOn, climbOn, descendOn, placedOn, planned, tried}
+use Rattle.build.specs.Trial.{Tried, riseOn, climbOn, descendOn, placedOn, planned, tried}
 use Rattle.build.proofs.Stands.{length-head, length-new, length-child}
 
 -- ---- the moves

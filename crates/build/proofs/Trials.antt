@@ -1,49 +1,66 @@
 -- What the functions of a trial need, and each way through them, over variables. Assumes nothing.
-use Prim.Native.Nat.{ℕ, _+_, _≤_, _<_}
-use mathlib.Core.Path.{_≡_, refl, sym, _∙_}
+use Prim.Native.Nat.{ℕ, _+_, _-_, _≤_, _<_}
+use mathlib.Core.Path.{_≡_, refl, sym, ap, _∙_}
 use mathlib.Core.Bool.{Bool, true, false, cond}
 use mathlib.Core.List.{List, [], _∷_}
 use native.Mathlib.Omega.{arith}
+use lib.ListN.{getD}
 use types.Run.{OneOf, miss}
 use denote.Enum.Declared.{tagOf}
-use Rattle.record.specs.declared.History.{History}
+use Rattle.layout.specs.declared.Shape.{Shape}
+use Rattle.record.specs.Record.{History, recordOf, Becomes}
 use Rattle.record.specs.declared.Refusal.{Refusal}
 use Rattle.record.specs.declared.Refusal.the-variants.{Nothing, Numbers, Short, Damaged, Finished, Early, Outside, NoQuark, TableFull, Top, Deep, NoRoom, NoTag, WrongLength, Cut, NotOpen, LongFeed}
 use Rattle.record.specs.Refusals.{accepted}
 use Rattle.record.proofs.Refusal.{the-type}
-use Rattle.record.specs.Levels.{intervalsAt, lastEndAt}
-use Rattle.record.specs.Moves.{closed, raised, stored, stretched}
+use Rattle.record.proofs.Lies.{last-end-lies}
+use Rattle.record.specs.Levels.{intervalsAt, childrenAt, lastEndAt}
+use Rattle.record.specs.Moves.{withLargest, closed, raised, stored, stretched}
 use Rattle.record.specs.Sound.{lastTime}
 use Rattle.record.specs.Firm.{Firm, Long}
 use Rattle.build.specs.declared.Plan.{Plan}
-use Rattle.build.specs.declared.Tried.{Tried}
-use Rattle.build.specs.Settle.{settle, planRefusal}
+use Rattle.build.specs.Settle.{plan, lowest, taken, settle, planRefusal}
 use Rattle.build.specs.Feasible.{Feasible}
-use Rattle.build.specs.Trial.{riseOn, climbOn, descendOn, placedOn, planned, tried}
-use Rattle.build.specs.Carried.{Alike, Climbing, Hanging, Landed}
-use Rattle.build.proofs.Carried.{rise-closes, rise-raises, raise-needs, landed, chain-empty, climb-none, planned-firm, planned-alike, planned-long}
-use Rattle.build.proofs.Plans.{feasible, straight-fine, then-nothing}
+use Rattle.build.specs.Trial.{Tried, riseOn, climbOn, descendOn, chainOn, placedOn, planned, tried}
+use Rattle.build.specs.Carried.{Alike, Climbing, Descending, Hanging, Landed}
+use Rattle.build.proofs.Carried.{rise-closes, rise-raises, raise-needs, landed, down-needs, chain-empty, climb-none, planned-firm, planned-alike, planned-long}
+use Rattle.build.proofs.Taken.{taken-room, taken-plan, taken-accepted}
+use Rattle.build.proofs.Plans.{feasible, then-nothing}
 
 -- ═══ One level up ═══
 
-module _ (h : History) where
-  pub rose-closed : (g : History) → h .low < h .top → g ≡ closed h → g ≡ riseOn h
-  rose-closed g lt e = e ∙ sym (rise-closes h lt)
+module _ (w w′ : List ℕ) where
+  pub rose-closed : getD w 85 0 < getD w 86 0 → Becomes w w′ closed → Becomes w w′ riseOn
+  rose-closed lt b = (b .0, λ s. b .1 s ∙ sym (rise-closes (recordOf s w) lt))
 
-  pub rose-raised : (g : History) → h .top ≤ h .low → g ≡ raised h → g ≡ riseOn h
-  rose-raised g le e = e ∙ sym (rise-raises h le)
+  pub rose-raised : getD w 86 0 ≤ getD w 85 0 → Becomes w w′ raised → Becomes w w′ riseOn
+  rose-raised le b = (b .0, λ s. b .1 s ∙ sym (rise-raises (recordOf s w) le))
 
-  pub raise-calls : Climbing h 1 → h .top ≤ h .low → (h .top < 15) × (h .used < 4294967295)
-  raise-calls c le = let k = raise-needs h 0 c le in (k .0, k .2)
+pub raise-calls : (h : History) → Climbing h 1 → h .top ≤ h .low → (h .low ≤ h .top) × (h .top < 15) × (h .used < 4294967295)
+raise-calls h c le = let k = raise-needs h 0 c le in (c .firm .ordered, k .0, k .2)
 
 -- ═══ A chain ═══
 
-module _ (h : History) (n : ℕ) (k : Hanging h n) where
-  pub chain-stores : (g : History) (a : ℕ) → g ≡ descendOn a n h → intervalsAt (g .branch) 0 < 65535
-  chain-stores g a e = rw e (omega (arith, chain-empty h a n k))
+pub down-calls : (h : History) (l : ℕ) → 0 < l → Descending h l
+    → (l - 1 < h .low) × (h .low ≤ h .top) × (h .top < 16) × (h .used < 4294967295) × (childrenAt (h .branch) (l - 1 + 1) < 65535)
+down-calls h l lt d =
+    let k = down-needs h l lt d in (omega (arith, d .low), d .firm .ordered, omega (arith, d .firm .top), k .1, k .2)
 
-pub chain-stored : (h g k : History) (n : ℕ) → g ≡ h → k ≡ stored g n → k ≡ stored h n
-chain-stored h g k n e f = rw (← e) f
+-- the lowest node of a chain is empty
+pub chain-stores : (h : History) (n : ℕ) → Hanging h n → (g : History) (a : ℕ) → g ≡ descendOn a n h → intervalsAt (g .branch) 0 < 65535
+chain-stores h n k g a e = rw e (omega (arith, chain-empty h a n k))
+
+module _ (w : List ℕ) (n : ℕ) where
+  module _ (s : Shape) (k : Hanging (recordOf s w) n) where
+    pub hangs-low : n < 16
+    hangs-low = omega (arith, k .down .low, k .down .firm .ordered, k .down .firm .top)
+
+    pub hangs-last : getD w (64 + n) 0 ≤ lastTime
+    hangs-last = omega (arith, k .last, last-end-lies w n hangs-low)
+
+  pub chain-stored : (w′ w″ : List ℕ) → n < 16 → Becomes w w′ (descendOn (getD w (64 + n) 0 + 1) n) → Becomes w′ w″ (λ g. stored g 0) → Becomes w w″ (chainOn n)
+  chain-stored w′ w″ lt b c =
+      (c .0, λ s. c .1 s ∙ ap (λ (g : History). stored g 0) (b .1 s ∙ ap (λ (e : ℕ). descendOn (e + 1) n (recordOf s w)) (sym (last-end-lies w n lt))))
 
 -- ═══ A plan ═══
 
@@ -96,9 +113,9 @@ refused NotOpen k = refl
 refused LongFeed k = refl
 
 module _ (h : History) (s e : ℕ) (p : Plan) (r : Refusal) (settled : p ≡ settle h s) (is : r ≡ planRefusal h p) where
-  pub tried-refused : OneOf others (tagOf the-type r) → _≡_ {A = Tried} (record { refusal = r; history = h }) (tried h s e)
+  pub tried-refused : OneOf others (tagOf the-type r) → (r ≡ tried h s e .refusal) × (h ≡ tried h s e .history)
   unfolding tried
-  tried-refused k = simp (← settled, ← is, refused r k)
+  tried-refused k = (simp (← settled, ← is, refused r k), simp (← settled, ← is, refused r k))
 
   pub tried-can : Firm h → r ≡ Nothing → Feasible h p
   tried-can f x = let y : planRefusal h (settle h s) ≡ Nothing = rw settled at (sym is ∙ x) in rw settled (feasible h s f y)
@@ -107,16 +124,20 @@ module _ (h : History) (s e : ℕ) (p : Plan) (r : Refusal) (settled : p ≡ set
   unfolding tried
   tried-accepted g x y = simp (← settled, ← is, x, y)
 
--- neither a close nor a chain: the interval goes straight to its node
-module _ (h : History) (s : ℕ) (p : Plan) (settled : p ≡ settle h s) (f : Firm h) (z : p .closes ≡ 0) (c : p .chain ≡ false) where
-  pub straight-accepted : planRefusal h p ≡ Nothing
-  straight-accepted = rw settled (straight-fine h s f (rw settled at z) (rw settled at c))
+  pub tried-planned : (g : History) → r ≡ Nothing → g ≡ planned p e h → (Nothing ≡ tried h s e .refusal) × (g ≡ tried h s e .history)
+  tried-planned g x y = let t = tried-accepted g x y in (ap (λ (t : Tried). t .refusal) t, ap (λ (t : Tried). t .history) t)
 
-  pub straight-can : Feasible h p
-  straight-can = tried-can h s 0 p _ settled refl f straight-accepted
+-- an open node that takes the interval as it is
+module _ (h : History) (s l e : ℕ) (f : Firm h) (b : Bool) (said : b ≡ taken h s l) (yes : b ≡ true) (g : History) (is : g ≡ stretched h e) where
+  pub taken-stores : intervalsAt (g .branch) l < 65535
+  unfolding stretched withLargest
+  taken-stores = rw is (omega (arith, taken-room h s l (sym said ∙ yes), f .shaped .small))
 
-  pub straight-tried : (e : ℕ) → _≡_ {A = Tried} (record { refusal = Nothing; history = stored (stretched h e) (p .level) }) (tried h s e)
-  straight-tried e = tried-accepted h s e p _ settled refl _ straight-accepted (plan-stored h p e h _ (climb-none h _ z) refl _ c refl)
+  pub taken-tried : (k : History) → l ≡ lowest (h .top - h .low) (h .branch) s (h .low) → l ≤ h .top → k ≡ stored g l → (Nothing ≡ tried h s e .refusal) × (k ≡ tried h s e .history)
+  taken-tried k at le x =
+      let p = plan 0 l false in
+      tried-planned h s e p _ (sym (taken-plan h s l (sym said ∙ yes) at)) refl k (taken-accepted h l le (f .top))
+      (plan-stored h p e h g (climb-none h 0 refl) is k refl x)
 
 -- ═══ What a trial keeps ═══
 
@@ -145,11 +166,3 @@ module _ (h : History) (s e : ℕ) where
 
   pub tried-long : Long (h .branch) → Long (tried h s e .history .branch)
   tried-long g = tried-either (λ t. Long (t .history .branch)) (λ x. planned-long (settle h s) h e g) (λ x. g)
-
-  pub tried-history : planRefusal h (settle h s) ≡ Nothing → tried h s e .history ≡ planned (settle h s) e h
-  unfolding tried
-  tried-history x = simp x
-
-  pub tried-unchanged : accepted (planRefusal h (settle h s)) ≡ false → tried h s e .history ≡ h
-  unfolding tried
-  tried-unchanged x = simp x

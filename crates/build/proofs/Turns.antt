@@ -5,183 +5,197 @@ use mathlib.Core.Bool.{true, false}
 use mathlib.Core.List.{List}
 use native.Mathlib.Nat.{sub-zero}
 use native.Mathlib.Omega.{arith}
-use lib.ListN.{length}
+use lib.ListN.{length, getD}
 use borrow.Author.Tests.{lt-ltb, le-ltb}
 use Rattle.layout.specs.declared.Entry.{Entry}
-use Rattle.record.specs.declared.History.{History}
+use Rattle.layout.specs.declared.Shape.{Shape}
+use Rattle.record.specs.Record.{History, branchOf, recordOf, Becomes}
 use Rattle.record.specs.Levels.{intervalsAt, childrenAt, lastEndAt}
 use Rattle.record.specs.Sound.{lastTime}
 use Rattle.record.specs.Firm.{Firm}
 use Rattle.record.specs.Moves.{stretched}
+use Rattle.record.proofs.Lies.{last-end-lies}
 use Rattle.build.specs.declared.Plan.{Plan}
 use Rattle.build.specs.Feasible.{Feasible}
-use Rattle.build.specs.Moves.{Held, held, Room, Standing, putHead, close, raise, make, store}
+use Rattle.build.specs.Moves.{Held, held, Room, Standing, Turns, putHead, close, raise, make, store}
 use Rattle.build.specs.Write.{rise, climb, descend, stretch, chained, placed, written, closeAll}
+use Rattle.build.specs.Trial.{climbOn, descendOn}
 use Rattle.build.specs.Carried.{Climbing, Descending, Hanging, Landed}
-use Rattle.build.proofs.Carried.{rise-alike, climb-one, rise-climbing, climb-alike, stretch-alike, make-needs, make-alike, make-descending, descend-ends, descend-alike, chain-keeps, landed}
+use Rattle.build.proofs.Carried.{climb-one, rise-climbing, make-needs, make-descending, descend-ends, chain-keeps, landed}
 use Rattle.build.proofs.Stands.{open-stands, length-head}
 use Rattle.build.proofs.Steps.{rise-history, rise-length, climb-history, climb-length, make-history, make-length, descend-history, descend-length, room-kept}
 
--- a record and nodes are those of σ
-abbrev pub Are : History → List ℕ → Held → Type 0
-Are g b σ = (g ≡ σ .history) × (b ≡ σ .nodes)
+-- a move's equations, as one of record and nodes together
+module _ (s : Shape) (w b w′ b′ : List ℕ) (f : Held → Held) where
+  pub joined : Turns s w b w′ b′ f → f (held (recordOf s w) b) ≡ held (recordOf s w′) b′
+  joined t = λ j. record { history = sym (t .1) j; nodes = sym (t .2) j }
 
-joined : (g : History) (b : List ℕ) (σ : Held) → Are g b σ → σ ≡ held g b
-joined g b σ e = λ j. record { history = sym (e .0) j; nodes = sym (e .1) j }
-
-parted : (g : History) (b : List ℕ) (σ : Held) → σ ≡ held g b → Are g b σ
-parted g b σ e = (sym (ap (λ (τ : Held). τ .history) e), sym (ap (λ (τ : Held). τ .nodes) e))
+  pub parted : length w′ ≡ 87 → f (held (recordOf s w) b) ≡ held (recordOf s w′) b′ → Turns s w b w′ b′ f
+  parted n e = (n, sym (ap (λ (τ : Held). τ .history) e), sym (ap (λ (τ : Held). τ .nodes) e))
 
 -- ═══ One level up ═══
 
-module _ (h g : History) (b c : List ℕ) where
-  pub rise-close : h .low < h .top → Are g c (close (held h b)) → Are g c (rise (held h b))
+module _ (s : Shape) (w b w′ b′ : List ℕ) where
+  pub rise-close : getD w 85 0 < getD w 86 0 → Turns s w b w′ b′ close → Turns s w b w′ b′ rise
   unfolding rise
   rise-close lt e = simp (lt-ltb _ _ lt) e
 
-  pub rise-raise : h .top ≤ h .low → Are g c (raise (held h b)) → Are g c (rise (held h b))
+  pub rise-raise : getD w 86 0 ≤ getD w 85 0 → Turns s w b w′ b′ raise → Turns s w b w′ b′ rise
   unfolding rise
   rise-raise le e = simp (le-ltb _ _ le) e
 
-pub raise-can : (h : History) (b : List ℕ) → Climbing h 1 → Room h b → h .top ≤ h .low → Firm h × Room h b × (h .low ≡ h .top) × (h .top < 15) × (h .used < h .shape .n)
-raise-can h b c room le =
+pub raise-can : (h : History) → Climbing h 1 → h .top ≤ h .low → (h .low ≡ h .top) × (h .top < 15) × (h .used < h .shape .n)
+raise-can h c le =
     let e : h .low ≡ h .top = omega (arith, c .firm .ordered) in
     let r = c .root (omega arith) in
-    (c .firm, room, e, r .0, r .1)
+    (e, r .0, r .1)
 
 -- ═══ The climb ═══
 
 -- after i of n rises
-pub record ClimbLeft (n : ℕ) (h : History) (b₀ : List ℕ) (i : ℕ) (g : History) (b : List ℕ) : Type 0 where
+pub record ClimbLeft (s : Shape) (n : ℕ) (w₀ b₀ : List ℕ) (i : ℕ) (w b : List ℕ) : Type 0 where
   pub left : i ≤ n
-  pub climbing : Climbing g (n - i)
-  pub room : Room g b
+  pub entire : length w ≡ 87
+  pub climbing : Climbing (recordOf s w) (n - i)
+  pub room : Room (recordOf s w) b
   pub long : length b ≡ length b₀
-  pub same : climb n (held h b₀) ≡ climb (n - i) (held g b)
+  pub same : climb n (held (recordOf s w₀) b₀) ≡ climb (n - i) (held (recordOf s w) b)
 
-pub climb-begins : (n : ℕ) (h : History) (b : List ℕ) → Climbing h n → Room h b → ClimbLeft n h b 0 h b
-climb-begins n h b c room = record { left = omega arith; climbing = rw sub-zero c; room = room; long = refl; same = rw sub-zero }
+pub climb-begins : (s : Shape) (n : ℕ) (w b : List ℕ) → length w ≡ 87 → Climbing (recordOf s w) n → Room (recordOf s w) b → ClimbLeft s n w b 0 w b
+climb-begins s n w b e c room = record { left = omega arith; entire = e; climbing = rw sub-zero c; room = room; long = refl; same = rw sub-zero }
 
-climb-step : (m n : ℕ) (σ : Held) (g : History) (b : List ℕ) → m ≡ suc n → Are g b (rise σ) → climb m σ ≡ climb n (held g b)
+climb-step : (m n : ℕ) (σ τ : Held) → m ≡ suc n → rise σ ≡ τ → climb m σ ≡ climb n τ
 unfolding climb
-climb-step m n σ g b e f = ap (λ (k : ℕ). climb k σ) e ∙ ap (climb n) (joined g b (rise σ) f)
+climb-step m n σ τ e f = ap (λ (k : ℕ). climb k σ) e ∙ ap (climb n) f
 
-module _ (n : ℕ) (h : History) (b₀ : List ℕ) (i : ℕ) (g : History) (b : List ℕ) (k : ClimbLeft n h b₀ i g b) where
+module _ (s : Shape) (n : ℕ) (w₀ b₀ : List ℕ) (i : ℕ) (w b : List ℕ) (k : ClimbLeft s n w₀ b₀ i w b) where
   module _ (lt : i < n) where
     one-less : n - i ≡ suc (n - (i + 1))
     one-less = omega arith
 
-    climbing-on : Climbing g (suc (n - (i + 1)))
-    climbing-on = subst (λ (m : ℕ). Climbing g m) one-less (k .climbing)
+    climbing-on : Climbing (recordOf s w) (suc (n - (i + 1)))
+    climbing-on = subst (λ (m : ℕ). Climbing (recordOf s w) m) one-less (k .climbing)
 
-    pub climb-needs : Climbing g 1 × Room g b
-    climb-needs = (climb-one g (n - (i + 1)) climbing-on, k .room)
+    pub climb-needs : (length w ≡ 87) × Climbing (recordOf s w) 1 × Room (recordOf s w) b
+    climb-needs = (k .entire, climb-one (recordOf s w) (n - (i + 1)) climbing-on, k .room)
 
-    pub climb-turn : (r : History) (c : List ℕ) → Are r c (rise (held g b)) → ClimbLeft n h b₀ (i + 1) r c
-    climb-turn r c e =
-        let on = e .0 ∙ rise-history (held g b) in
-        let long = ap length (e .1) ∙ rise-length (held g b) in
+    pub climb-turn : (w′ b′ : List ℕ) → Turns s w b w′ b′ rise → ClimbLeft s n w₀ b₀ (i + 1) w′ b′
+    climb-turn w′ b′ e =
+        let σ = held (recordOf s w) b in
+        let on = e .1 ∙ rise-history σ in
+        let long = ap length (e .2) ∙ rise-length σ in
         record {
           left = omega arith;
-          climbing = rw on (rise-climbing g (n - (i + 1)) climbing-on);
-          room = room-kept g r b c (ap (λ (x : History). x .shape) on ∙ rise-alike g .shape) long (k .room);
+          entire = e .0;
+          climbing = subst (λ (g : History). Climbing g (n - (i + 1))) (sym on) (rise-climbing (recordOf s w) (n - (i + 1)) climbing-on);
+          room = room-kept (recordOf s w) (recordOf s w′) b b′ refl long (k .room);
           long = long ∙ k .long;
-          same = k .same ∙ climb-step (n - i) (n - (i + 1)) (held g b) r c one-less e;
+          same = k .same ∙ climb-step (n - i) (n - (i + 1)) σ (held (recordOf s w′) b′) one-less (joined s w b w′ b′ rise e);
         }
 
-  pub climb-done : n ≤ i → Are g b (climb n (held h b₀))
+  pub climb-done : n ≤ i → Turns s w₀ b₀ w b (climb n)
   unfolding climb
   climb-done le =
       let z : n - i ≡ 0 = omega arith in
-      parted g b (climb n (held h b₀)) (k .same ∙ ap (λ (m : ℕ). climb m (held g b)) z)
+      parted s w₀ b₀ w b (climb n) (k .entire) (k .same ∙ ap (λ (m : ℕ). climb m (held (recordOf s w) b)) z)
 
 -- ═══ The chain ═══
 
 -- with l of n nodes still to make
-pub record DescendLeft (a n : ℕ) (h : History) (b₀ : List ℕ) (l : ℕ) (g : History) (b : List ℕ) : Type 0 where
-  pub descending : Descending g l
-  pub room : Room g b
+pub record DescendLeft (s : Shape) (a n : ℕ) (w₀ b₀ : List ℕ) (l : ℕ) (w b : List ℕ) : Type 0 where
+  pub entire : length w ≡ 87
+  pub descending : Descending (recordOf s w) l
+  pub room : Room (recordOf s w) b
   pub long : length b ≡ length b₀
-  pub same : descend a n (held h b₀) ≡ descend a l (held g b)
+  pub same : descend a n (held (recordOf s w₀) b₀) ≡ descend a l (held (recordOf s w) b)
 
-pub descend-begins : (a n : ℕ) (h : History) (b : List ℕ) → Descending h n → Room h b → DescendLeft a n h b n h b
-descend-begins a n h b d room = record { descending = d; room = room; long = refl; same = refl }
+pub descend-begins : (s : Shape) (a n : ℕ) (w b : List ℕ) → length w ≡ 87 → Descending (recordOf s w) n → Room (recordOf s w) b → DescendLeft s a n w b n w b
+descend-begins s a n w b e d room = record { entire = e; descending = d; room = room; long = refl; same = refl }
 
-descend-step : (a m n : ℕ) (σ : Held) (g : History) (b : List ℕ) → m ≡ suc n → Are g b (make a n σ) → descend a m σ ≡ descend a n (held g b)
+descend-step : (a m n : ℕ) (σ τ : Held) → m ≡ suc n → make a n σ ≡ τ → descend a m σ ≡ descend a n τ
 unfolding descend
-descend-step a m n σ g b e f = ap (λ (k : ℕ). descend a k σ) e ∙ ap (descend a n) (joined g b (make a n σ) f)
+descend-step a m n σ τ e f = ap (λ (k : ℕ). descend a k σ) e ∙ ap (descend a n) f
 
-module _ (a n : ℕ) (h : History) (b₀ : List ℕ) (l : ℕ) (g : History) (b : List ℕ) (k : DescendLeft a n h b₀ l g b) where
+module _ (s : Shape) (a n : ℕ) (w₀ b₀ : List ℕ) (l : ℕ) (w b : List ℕ) (k : DescendLeft s a n w₀ b₀ l w b) where
   module _ (some : 0 < l) where
     one-more : l ≡ suc (l - 1)
     one-more = omega arith
 
-    descending-on : Descending g (suc (l - 1))
-    descending-on = subst (λ (m : ℕ). Descending g m) one-more (k .descending)
+    descending-on : Descending (recordOf s w) (suc (l - 1))
+    descending-on = subst (λ (m : ℕ). Descending (recordOf s w) m) one-more (k .descending)
 
-    pub descend-needs : Firm g × Room g b × (g .low ≡ l - 1 + 1) × (childrenAt (g .branch) (l - 1 + 1) < g .shape .c) × (g .used < g .shape .n)
+    pub descend-needs : (length w ≡ 87) × Firm (recordOf s w) × Room (recordOf s w) b × (getD w 85 0 ≡ l - 1 + 1) × (childrenAt (branchOf w) (l - 1 + 1) < s .c) × (getD w 84 0 < s .n)
     descend-needs =
-        let m = make-needs g a (l - 1) descending-on in (k .descending .firm, k .room, omega (arith, k .descending .low), m .3, m .1)
+        let m = make-needs (recordOf s w) a (l - 1) descending-on in
+        (k .entire, k .descending .firm, k .room, omega (arith, k .descending .low), m .3, m .1)
 
-    pub descend-turn : (r : History) (c : List ℕ) → Are r c (make a (l - 1) (held g b)) → DescendLeft a n h b₀ (l - 1) r c
-    descend-turn r c e =
-        let on = e .0 ∙ make-history (held g b) a (l - 1) in
-        let long = ap length (e .1) ∙ make-length (held g b) a (l - 1) in
+    pub descend-turn : (w′ b′ : List ℕ) → Turns s w b w′ b′ (make a (l - 1)) → DescendLeft s a n w₀ b₀ (l - 1) w′ b′
+    descend-turn w′ b′ e =
+        let σ = held (recordOf s w) b in
+        let on = e .1 ∙ make-history σ a (l - 1) in
+        let long = ap length (e .2) ∙ make-length σ a (l - 1) in
         record {
-          descending = rw on (make-descending g a (l - 1) descending-on);
-          room = room-kept g r b c (ap (λ (x : History). x .shape) on ∙ make-alike g a (l - 1) .shape) long (k .room);
+          entire = e .0;
+          descending = subst (λ (g : History). Descending g (l - 1)) (sym on) (make-descending (recordOf s w) a (l - 1) descending-on);
+          room = room-kept (recordOf s w) (recordOf s w′) b b′ refl long (k .room);
           long = long ∙ k .long;
-          same = k .same ∙ descend-step a l (l - 1) (held g b) r c one-more e;
+          same = k .same ∙ descend-step a l (l - 1) σ (held (recordOf s w′) b′) one-more (joined s w b w′ b′ (make a (l - 1)) e);
         }
 
-  pub descend-done : l ≤ 0 → Are g b (descend a n (held h b₀))
+  pub descend-done : l ≤ 0 → Turns s w₀ b₀ w b (descend a n)
   unfolding descend
   descend-done le =
       let z : l ≡ 0 = omega arith in
-      parted g b (descend a n (held h b₀)) (k .same ∙ ap (λ (m : ℕ). descend a m (held g b)) z)
+      parted s w₀ b₀ w b (descend a n) (k .entire) (k .same ∙ ap (λ (m : ℕ). descend a m (held (recordOf s w) b)) z)
 
-module _ (h : History) (b : List ℕ) (l a : ℕ) (g : History) (c : List ℕ) (e : Are g c (descend a l (held h b))) where
+-- the last end under which it hangs, as it lies
+pub hangs : (s : Shape) (w : List ℕ) (l : ℕ) → Hanging (recordOf s w) l → (l < 16) × (getD w (64 + l) 0 ≤ lastTime) × (lastEndAt (branchOf w) l ≡ getD w (64 + l) 0)
+hangs s w l k =
+    let lt : l < 16 = omega (arith, k .down .low, k .down .firm .ordered, k .down .firm .top) in
+    let e = last-end-lies w l lt in
+    (lt, omega (arith, k .last), e)
+
+module _ (s : Shape) (w b : List ℕ) (l a : ℕ) (v c : List ℕ) (e : Turns s w b v c (descend a l)) where
   -- the lowest node takes the interval
-  pub chain-can : Hanging h l → Room h b → Firm g × Room g c × (g .low ≤ 0) × (0 ≤ g .top) × (intervalsAt (g .branch) 0 < g .shape .k)
+  pub chain-can : Hanging (recordOf s w) l → Room (recordOf s w) b
+      → (length v ≡ 87) × Firm (recordOf s v) × Room (recordOf s v) c × (getD v 85 0 ≤ 0) × (0 ≤ getD v 86 0) × (intervalsAt (branchOf v) 0 < s .k)
   chain-can k room =
-      let on = e .0 ∙ descend-history a l (held h b) in
-      let d = descend-ends a l h (k .down) in
-      let same = ap (λ (x : History). x .shape) on ∙ descend-alike a l h .shape in
-      let kept = room-kept h g b c same (ap length (e .1) ∙ descend-length a l (held h b)) room in
-      (rw on (d .firm), kept, rw on (omega (arith, d .low)), omega arith, rw on (chain-keeps h a l k))
+      let h = recordOf s w in
+      let on : descendOn a l h ≡ recordOf s v = sym (e .1 ∙ descend-history a l (held h b)) in
+      let d : Descending (recordOf s v) 0 = subst (λ (g : History). Descending g 0) on (descend-ends a l h (k .down)) in
+      let fits : intervalsAt (branchOf v) 0 < s .k = subst (λ (g : History). intervalsAt (g .branch) 0 < g .shape .k) on (chain-keeps h a l k) in
+      (e .0, d .firm, room-kept h (recordOf s v) b c refl (ap length (e .2) ∙ descend-length a l (held h b)) room, omega (arith, d .low), omega arith, fits)
 
-  pub chain-done : (x : Entry) (r : History) (d : List ℕ) → a ≡ lastEndAt (h .branch) l + 1 → Are r d (store x 0 (held g c)) → Are r d (chained x l (held h b))
+  pub chain-done : (x : Entry) (r d : List ℕ) → a ≡ lastEndAt (branchOf w) l + 1 → Turns s v c r d (store x 0) → Turns s w b r d (chained x l)
   chain-done x r d is f =
-      let q : descend (lastEndAt (h .branch) l + 1) l (held h b) ≡ held g c = rw (← is) (joined g c (descend a l (held h b)) e) in
-      rw q f
+      let σ = held (recordOf s w) b in
+      let q : descend (lastEndAt (branchOf w) l + 1) l σ ≡ held (recordOf s v) c = ap (λ (n : ℕ). descend n l σ) (sym is) ∙ joined s w b v c (descend a l) e in
+      parted s w b r d (chained x l) (f .0) (ap (store x 0) q ∙ joined s v c r d (store x 0) f)
 
 -- ═══ The plan ═══
 
--- no level closes
-pub stays : (h : History) (b : List ℕ) (n : ℕ) → n ≡ 0 → Are h b (climb n (held h b))
-unfolding climb
-stays h b n z = rw z (refl, refl)
-
-module _ (h : History) (b : List ℕ) (p : Plan) (x : Entry) (g : History) (c : List ℕ) (e : Are g c (climb (p .closes) (held h b))) (s : History) (is : s ≡ stretched g (x .end)) where
-  pub written-lands : Firm h → Room h b → Feasible h p → x .end ≤ lastTime → Landed s p × Room s c
+module _ (s : Shape) (w b : List ℕ) (p : Plan) (x : Entry) (v c : List ℕ) (e : Turns s w b v c (climb (p .closes))) (u : List ℕ) (is : Becomes v u (λ g. stretched g (x .end))) where
+  pub written-lands : Firm (recordOf s w) → Room (recordOf s w) b → Feasible (recordOf s w) p → x .end ≤ lastTime → Landed (recordOf s u) p × Room (recordOf s u) c
   written-lands f room can le =
-      let on = e .0 ∙ climb-history (p .closes) (held h b) in
-      let k : Landed s p = rw (is, on) (landed h p (x .end) f can le) in
-      let same = ap (λ (y : History). y .shape) is ∙ stretch-alike g (x .end) .shape ∙ (ap (λ (y : History). y .shape) on ∙ climb-alike (p .closes) h .shape) in
-      (k, room-kept h s b c same (ap length (e .1) ∙ climb-length (p .closes) (held h b)) room)
+      let h = recordOf s w in
+      let on : stretched (climbOn (p .closes) h) (x .end) ≡ recordOf s u =
+      sym (is .1 s ∙ ap (λ (g : History). stretched g (x .end)) (e .1 ∙ climb-history (p .closes) (held h b))) in (
+        subst (λ (g : History). Landed g p) on (landed h p (x .end) f can le),
+        room-kept h (recordOf s u) b c refl (ap length (e .2) ∙ climb-length (p .closes) (held h b)) room,
+      )
 
-  came : stretch (x .end) (climb (p .closes) (held h b)) ≡ held s c
+  came : stretch (x .end) (climb (p .closes) (held (recordOf s w) b)) ≡ held (recordOf s u) c
   unfolding stretch
-  came = joined s c (stretch (x .end) (climb (p .closes) (held h b))) (is ∙ ap (λ (y : History). stretched y (x .end)) (e .0), e .1)
+  came = ap (stretch (x .end)) (joined s w b v c (climb (p .closes)) e) ∙ (λ j. record { history = sym (is .1 s) j; nodes = c })
 
-  module _ (r : History) (d : List ℕ) where
-    pub written-chain : p .chain ≡ true → Are r d (chained x (p .level) (held s c)) → Are r d (written x p (held h b))
+  module _ (r d : List ℕ) where
+    pub written-chain : p .chain ≡ true → Turns s u c r d (chained x (p .level)) → Turns s w b r d (written x p)
     unfolding written placed
-    written-chain t f = rw came (simp t f)
+    written-chain t f = parted s w b r d (written x p) (f .0) (ap (placed x p) came ∙ simp t (joined s u c r d (chained x (p .level)) f))
 
-    pub written-here : p .chain ≡ false → Are r d (store x (p .level) (held s c)) → Are r d (written x p (held h b))
+    pub written-here : p .chain ≡ false → Turns s u c r d (store x (p .level)) → Turns s w b r d (written x p)
     unfolding written placed
-    written-here t f = rw came (simp t f)
+    written-here t f = parted s w b r d (written x p) (f .0) (ap (placed x p) came ∙ simp t (joined s u c r d (store x (p .level)) f))
 
 -- ═══ Closing all ═══
 

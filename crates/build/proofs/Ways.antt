@@ -2,41 +2,43 @@
 use Prim.Native.Nat.{ℕ, zero, suc, _+_, _-_, _<_, _≤_}
 use native.Mathlib.Nat.{zero-add}
 use native.Mathlib.Omega.{arith}
-use mathlib.Core.Path.{_≡_, refl, sym, ap, _∙_}
-use mathlib.Core.Bool.{Bool, true, false, cond}
-use lib.Dec.{ltb, leb}
+use mathlib.Core.Path.{_≡_}
+use mathlib.Core.Bool.{Bool, true, false, not, _&&_}
+use mathlib.Core.List.{List}
+use lib.Dec.{ltb}
+use lib.ListN.{getD}
 use borrow.Author.Tests.{le-ltb, lt-ltb, le-leb, lt-leb}
 use Rattle.layout.specs.declared.Shape.{Shape}
-use Rattle.record.specs.declared.Branch.{Branch}
-use Rattle.record.specs.declared.History.{History}
+use Rattle.record.specs.Record.{Branch, History, branchOf, recordOf}
+use Rattle.record.proofs.Lies.{start-lies, intervals-lie, children-lie, last-end-lies}
 use Rattle.record.specs.declared.Refusal.the-variants.{Nothing, Deep, NoRoom}
-use Rattle.record.specs.Levels.{startAt, intervalsAt, childrenAt, lastEndAt}
 use Rattle.build.specs.declared.Plan.{Plan}
 use Rattle.build.specs.declared.settle.Verdict.{Verdict}
 use Rattle.build.specs.declared.settle.Verdict.the-variants.{Here, Chain, Close}
 use Rattle.build.specs.Settle.{ruled, followed, askUp, lowest, settle, needed, planRefusal}
-use Rattle.build.specs.Lent.{ruledBy, begun, lent, pieces}
 
-pub ruleset tests = (le-ltb, lt-ltb, le-leb, lt-leb)
+-- ═══ Rules 1 and 2, as they are read in the array ═══
 
--- ═══ What is lent is all that is read ═══
+module _ (w : List ℕ) (sh : Shape) (s l : ℕ) (child : Bool) (last : ℕ) (lt : l < 16) where
+  module _ (due : (not child && ltb 0 l && ltb last s) ≡ true) where
+    pub chain-ruled : getD w (48 + l) 0 < sh .c → Chain ≡ ruled (branchOf w) sh s l child last
+    unfolding ruled
+    chain-ruled few = simp (due, children-lie w l lt, lt-ltb _ _ few)
 
-pub counted : (b : Branch) (sh : Shape) (s l : ℕ) (child : Bool) (last : ℕ) (v : Verdict) → v ≡ ruledBy (intervalsAt b l) (childrenAt b l) sh s l child last
-    → v ≡ ruled b sh s l child last
-unfolding ruled ruledBy
-counted b sh s l child last v e = e
+    pub full-ruled : sh .c ≤ getD w (48 + l) 0 → Close ≡ ruled (branchOf w) sh s l child last
+    unfolding ruled
+    full-ruled all = simp (due, children-lie w l lt, le-ltb _ _ all)
 
-lent-asked : (left : ℕ) (h : History) (s l : ℕ) (child : Bool) (last n : ℕ)
-    → askUp left h s l child last n ≡ askUp left (lent (h .branch .intervals) (h .branch .children) (h .shape) (h .low) (h .top) (h .«largest_end»)) s l child last n
-unfolding askUp ruled
-lent-asked zero h s l child last n = refl
-lent-asked (suc left) h s l child last n =
-    ap (followed (ruled (h .branch) (h .shape) s l child last) l n) (lent-asked left h s (l + 1) false (h .«largest_end») (l + 1 - h .low))
+  module _ (due : (not child && ltb 0 l && ltb last s) ≡ false) where
+    pub here-ruled : getD w (32 + l) 0 < sh .k → Here ≡ ruled (branchOf w) sh s l child last
+    unfolding ruled
+    here-ruled few = simp (due, intervals-lie w l lt, lt-ltb _ _ few)
 
-begun-lowest : (left : ℕ) (b : Branch) (s l : ℕ) → lowest left b s l ≡ lowest left (begun (b .starts)) s l
-unfolding lowest
-begun-lowest zero b s l = refl
-begun-lowest (suc left) b s l = ap (cond (leb (startAt b l) s) l) (begun-lowest left b s (l + 1))
+    pub close-ruled : sh .k ≤ getD w (32 + l) 0 → Close ≡ ruled (branchOf w) sh s l child last
+    unfolding ruled
+    close-ruled all = simp (due, intervals-lie w l lt, le-ltb _ _ all)
+
+pub ruleset ruled-ways = (chain-ruled, full-ruled, here-ruled, close-ruled)
 
 -- ═══ The question put to level l, with the verdict v ═══
 
@@ -59,46 +61,29 @@ module _ (h : History) (s l : ℕ) (child : Bool) (last n : ℕ) (v : Verdict) (
   unfolding askUp followed
   upward r e le ne f = let z : h .top - l ≡ suc (h .top - (l + 1)) = omega arith in simp (z, ← said, e, f)
 
-pub ruleset ways = (here, chained, counted)
-
 -- the parent is an open level too, and fewer are above it
-pub fewer : (top low l t : ℕ) → top - l ≡ t → (l ≤ top) × (top < 16) × (low ≤ l) → (l ≡ top → ⊥) → (top - (l + 1) < t) × ((l + 1 ≤ top) × (top < 16) × (low ≤ l + 1))
-fewer top low l t e p ne = (omega (arith, p .0, ne), (omega (arith, p .0, ne), p .1, omega (arith, p .2)))
+pub fewer : (top low l t : ℕ) → top - l ≡ t → (low ≤ l) × (l ≤ top) × (top < 16) → (l ≡ top → ⊥) → (top - (l + 1) < t) × ((low ≤ l + 1) × (l + 1 ≤ top) × (top < 16))
+fewer top low l t e p ne = (omega (arith, p .1, ne), (omega (arith, p .0), omega (arith, p .1, ne), p .2))
 
 -- ═══ The search for the lowest level, from l on ═══
 
-module _ (b : Branch) (s l top a : ℕ) (inv : lowest (top - l) b s l ≡ a) (lt : l < top) where
-  pub found : startAt b l ≤ s → l ≡ a
+module _ (w : List ℕ) (s l top a : ℕ) (inv : lowest (top - l) (branchOf w) s l ≡ a) (lt : l < top) (depth : top < 16) where
+  pub found : getD w (16 + l) 0 ≤ s → l ≡ a
   unfolding lowest
-  found le = let z : top - l ≡ suc (top - (l + 1)) = omega arith in simp (z, le-leb _ _ le) at inv
+  found le = let z : top - l ≡ suc (top - (l + 1)) = omega arith in simp (z, start-lies w l (omega arith), le-leb _ _ le) at inv
 
-  pub passed : s < startAt b l → lowest (top - (l + 1)) b s (l + 1) ≡ a
+  pub passed : s < getD w (16 + l) 0 → lowest (top - (l + 1)) (branchOf w) s (l + 1) ≡ a
   unfolding lowest
-  passed gt = let z : top - l ≡ suc (top - (l + 1)) = omega arith in simp (z, lt-leb _ _ gt) at inv
+  passed gt = let z : top - l ≡ suc (top - (l + 1)) = omega arith in simp (z, start-lies w l (omega arith), lt-leb _ _ gt) at inv
 
 pub at-root : (b : Branch) (s l top a : ℕ) → lowest (top - l) b s l ≡ a → top ≤ l → l ≡ a
 unfolding lowest
 at-root b s l top a inv le = let z : top - l ≡ 0 = omega arith in simp z at inv
 
-pub settled : (h : History) (s l : ℕ) (r : Plan) → l ≡ lowest (h .top - h .low) (begun (h .branch .starts)) s (h .low)
-    → r ≡ askUp (h .top - l) (lent (h .branch .intervals) (h .branch .children) (h .shape) (h .low) (h .top) (h .«largest_end»)) s l (ltb (h .low) l) (lastEndAt (h .branch) l) 0
-    → r ≡ settle h s
+pub settled : (sh : Shape) (w : List ℕ) (s l : ℕ) (r : Plan) → (l ≡ lowest (getD w 86 0 - getD w 85 0) (branchOf w) s (getD w 85 0)) × (getD w 85 0 ≤ l) × (l ≤ getD w 86 0) × (getD w 86 0 < 16)
+    → r ≡ askUp (getD w 86 0 - l) (recordOf sh w) s l (ltb (getD w 85 0) l) (getD w (64 + l) 0) 0 → r ≡ settle (recordOf sh w) s
 unfolding settle
-settled h s l r e f =
-    let at : lowest (h .top - h .low) (h .branch) s (h .low) ≡ l = begun-lowest (h .top - h .low) (h .branch) s (h .low) ∙ sym e in
-    rw at (f ∙ sym (lent-asked (h .top - l) h s l (ltb (h .low) l) (lastEndAt (h .branch) l) 0))
-
--- a record is settled as one of the same pieces
-on-lent : (h : History) (s : ℕ)
-    → (let l = lowest (h .top - h .low) (begun (h .branch .starts)) s (h .low) in
-    askUp (h .top - l) (lent (h .branch .intervals) (h .branch .children) (h .shape) (h .low) (h .top) (h .«largest_end»)) s l (ltb (h .low) l) (lastEndAt (h .branch) l) 0)
-    ≡ settle h s
-on-lent h s = settled h s _ _ refl refl
-
-pub settled-on : (h : History) (s : ℕ) (r : Plan)
-    → r ≡ settle (pieces (h .branch .starts) (h .branch .intervals) (h .branch .children) (h .branch .«last_ends») (h .shape) (h .low) (h .top) (h .«largest_end»)) s → r ≡ settle h s
-settled-on h s r e =
-    e ∙ sym (on-lent (pieces (h .branch .starts) (h .branch .intervals) (h .branch .children) (h .branch .«last_ends») (h .shape) (h .low) (h .top) (h .«largest_end»)) s) ∙ on-lent h s
+settled sh w s l r p f = simp (← p .0, last-end-lies w l (omega (arith, p .2, p .3)), f)
 
 -- ═══ Depth and room ═══
 

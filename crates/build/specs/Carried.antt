@@ -2,7 +2,7 @@
 use Prim.Native.Nat.{ℕ, _+_, _≤_, _<_}
 use mathlib.Core.Bool.{true, false}
 use mathlib.Core.Path.{_≡_}
-use Rattle.record.specs.declared.History.{History}
+use Rattle.record.specs.Record.{History}
 use Rattle.record.specs.Levels.{intervalsAt, childrenAt, lastEndAt}
 use Rattle.record.specs.Sound.{lastTime}
 use Rattle.record.specs.Firm.{Firm}

@@ -1,5 +1,4 @@
 pub mod Settle
-pub mod Lent
 pub mod Moves
 pub mod Write
 pub mod Trial

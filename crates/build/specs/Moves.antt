@@ -2,16 +2,18 @@
 use Prim.Native.Nat.{ℕ, _+_, _*_, _≤_, _<_}
 use mathlib.Core.Bool.{cond}
 use mathlib.Core.List.{List}
+use mathlib.Core.Path.{_≡_}
 use lib.Dec.{ltb}
 use lib.ListN.{length}
 use lib.Seq.{sets}
 use Rattle.layout.specs.declared.Seq.{Seq}
+use Rattle.layout.specs.declared.Shape.{Shape}
 use Rattle.layout.specs.declared.Header.{Header}
 use Rattle.layout.specs.declared.Entry.{Entry}
 use Rattle.layout.specs.declared.First.{First}
 use Rattle.layout.specs.declared.First.the-variants.{Nothing, OneChild}
 use Rattle.layout.specs.Layout.{nodeSize, childAt, entryAt, headerBytes, childBytes, entryBytes, encode, newNode}
-use Rattle.record.specs.declared.History.{History}
+use Rattle.record.specs.Record.{Branch, History, recordOf}
 use Rattle.record.specs.Levels.{seqAt, placeAt, startAt, intervalsAt, childrenAt}
 use Rattle.record.specs.Firm.{Shaped}
 use Rattle.record.specs.Moves.{closed, raised, made, stored}
@@ -28,11 +30,19 @@ held h b = record { history = h; nodes = b }
 abbrev pub Room : History → List ℕ → Type 0
 Room h b = h .shape .n * nodeSize (h .shape) ≤ length b
 
+-- what the header of level l says has room in it
+pub record Fitting (b : Branch) (root l : ℕ) : Type 0 where
+  pub level : l < 16
+  pub top : root < 16
+  pub place : placeAt b l < 4294967296
+  pub intervals : intervalsAt b l < 65536
+  pub children : childrenAt b l < 65536
+  pub parent : l < root → placeAt b (l + 1) < 4294967296
+
 -- level l's node stands inside the buffer
 pub record Standing (h : History) (l : ℕ) (b : List ℕ) : Type 0 where
   pub shaped : Shaped (h .shape)
-  pub level : l < 16
-  pub top : h .top < 16
+  pub fitting : Fitting (h .branch) (h .top) l
   pub place : placeAt (h .branch) l < h .shape .n
   pub room : Room h b
 
@@ -99,3 +109,7 @@ store e l σ = let h = σ .history in let g = stored h l in record {
   history = g;
   nodes = sets (putHead g l openEnd 1 (σ .nodes)) (standsAt h l + entryAt (h .shape) (intervalsAt (h .branch) l)) (entryBytes e);
 }
+
+-- what a move does to the record's array and the nodes
+abbrev pub Turns : Shape → List ℕ → List ℕ → List ℕ → List ℕ → (Held → Held) → Type 0
+Turns s w b w′ b′ move = (length w′ ≡ 87) × (recordOf s w′ ≡ move (held (recordOf s w) b) .history) × (b′ ≡ move (held (recordOf s w) b) .nodes)

@@ -4,8 +4,7 @@ use mathlib.Core.Bool.{Bool, true, false, cond, not, _&&_}
 use mathlib.Core.List.{[], _∷_}
 use lib.Dec.{leb, ltb}
 use Rattle.layout.specs.declared.Shape.{Shape}
-use Rattle.record.specs.declared.Branch.{Branch}
-use Rattle.record.specs.declared.History.{History}
+use Rattle.record.specs.Record.{Branch, History}
 use Rattle.record.specs.declared.Refusal.{Refusal}
 use Rattle.record.specs.declared.Refusal.the-variants.{Deep, NoRoom}
 use Rattle.record.specs.Refusals.{firstOf}
@@ -50,6 +49,10 @@ askUp (suc left) h s l child last n =
 unfoldable pub lowest : ℕ → Branch → ℕ → ℕ → ℕ
 lowest zero b s l = l
 lowest (suc left) b s l = cond (leb (startAt b l) s) l (lowest left b s (l + 1))
+
+-- rule 2 has it stored in the open level l, as it is
+unfoldable pub taken : History → ℕ → ℕ → Bool
+taken h s l = cond (not (ltb (h .low) l) && ltb 0 l && ltb (lastEndAt (h .branch) l) s) false (fits (h .branch) (h .shape) l)
 
 -- what is to be done to store an interval that starts at s
 unfoldable pub settle : History → ℕ → Plan

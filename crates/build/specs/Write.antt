@@ -5,7 +5,7 @@ use mathlib.Core.List.{List}
 use lib.Dec.{ltb}
 use Rattle.layout.specs.declared.Entry.{Entry}
 use Rattle.layout.specs.declared.First.the-variants.{Nothing}
-use Rattle.record.specs.declared.History.{History}
+use Rattle.record.specs.Record.{History}
 use Rattle.record.specs.Refusals.{accepted}
 use Rattle.record.specs.Levels.{lastEndAt}
 use Rattle.record.specs.Moves.{stretched}

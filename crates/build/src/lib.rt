@@ -4,19 +4,10 @@ pub mod moves; // moves.rt: close, raise, make, store: record and node bytes cha
 pub mod write; // write.rt: a plan carried out; opening; closing all
 pub mod trial; // trial.rt: a plan carried out on the record alone
 
-use record::History;
-use record::Refusal;
-
 // What is to be done to store an interval: close so many levels from the lowest up (one above the root is a new root),
 // then make a chain below `level` and store in its lowest node, or store in `level`.
 pub struct Plan {
-    pub closes: u32,
-    pub level: u32,
+    pub closes: u64,
+    pub level: u64,
     pub chain: bool,
-}
-
-// What storing an interval comes to: refused, with the record as it came, or the record after it.
-pub struct Tried {
-    pub refusal: Refusal,
-    pub history: History,
 }

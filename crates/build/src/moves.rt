@@ -5,15 +5,14 @@ use layout::First;
 use layout::Header;
 use layout::Seq;
 use layout::Shape;
-use record::History;
 ghost use mathlib.Core.Path.{_≡_};
 ghost use Prim.Native.Nat.{_+_, _*_, _≤_, _<_};
-ghost use lib.ListN.{length};
+ghost use lib.ListN.{getD, length};
 ghost use Rattle.layout.specs.Layout.{nodeSize};
+ghost use Rattle.record.specs.Record.{branchOf, recordOf};
 ghost use Rattle.record.specs.Levels.{placeAt, intervalsAt, childrenAt};
 ghost use Rattle.record.specs.Firm.{Shaped, Firm};
-ghost use Rattle.build.specs.Moves.{parentAt, headOf, standsAt, putHead, putNew, held, Standing, Room, withChild, close, raise, make, store};
-ghost use Rattle.build.specs.Lent.{parentOn, storedOn};
+ghost use Rattle.build.specs.Moves.{parentAt, headOf, standsAt, putHead, putNew, Fitting, Standing, Room, Turns, close, raise, make, store};
 
 // "end u64 (2^64-1 while open)"
 pub const OPEN_END: u64 = 0xffff_ffff_ffff_ffff;
@@ -21,179 +20,118 @@ pub const OPEN_END: u64 = 0xffff_ffff_ffff_ffff;
 // "parent u32 (2^32-1 for none)"
 pub const NO_PARENT: u32 = 0xffff_ffff;
 
-fn parent_of(h: History, level: u32) -> Seq
-    requires { ⌜ h .top < 16 ⌝ }
-    ensures { λ r. ⌜ r ≡ parentAt h level ⌝ }
+fn parent_of(h: &[u64; 87], level: u64) -> Seq
+    requires { ⌜ Fitting (branchOf (now h)) (getD (now h) 86 0) level ⌝ }
+    ensures { λ r. ⌜ ((s : Shape) → r ≡ parentAt (recordOf s (now (h .entry))) level) ⌝ }
 {
-    let b = h.branch;
-    if level < h.top {
+    if level < h[record::TOP] {
         let i = (level + 1) as usize;
-        return b.places[i];
+        return Seq(h[i] as u32);
     }
     Seq(NO_PARENT)
 }
 
 // "What is written into open nodes comes from the record, not from node bytes."
-fn head_of(h: History, level: u32, end: u64, state: u8) -> Header
-    requires { ⌜ (level < 16) × (h .top < 16) ⌝ }
-    ensures { λ r. ⌜ r ≡ headOf h level end state ⌝ }
+fn head_of(h: &[u64; 87], level: u64, end: u64, state: u8) -> Header
+    requires { ⌜ Fitting (branchOf (now h)) (getD (now h) 86 0) level ⌝ }
+    ensures { λ r. ⌜ ((s : Shape) → r ≡ headOf (recordOf s (now (h .entry))) level end state) ⌝ }
 {
     let parent = parent_of(h, level);
-    let b = h.branch;
     let i = level as usize;
     Header {
-        start: b.starts[i],
+        start: h[record::STARTS + i],
         end: end,
-        sequence: b.places[i],
+        sequence: Seq(h[i] as u32),
         parent: parent,
-        intervals: b.intervals[i],
-        children: b.children[i],
+        intervals: h[record::INTERVALS + i] as u16,
+        children: h[record::CHILDREN + i] as u16,
         level: level as u8,
         state: state,
     }
 }
 
-fn place_of(h: History, level: u32) -> usize
-    requires { ⌜ (level < 16) × (placeAt (h .branch) level < h .shape .n) × Shaped (h .shape) ⌝ }
-    ensures { λ r. ⌜ (r ≡ standsAt h level) × (r + nodeSize (h .shape) ≤ h .shape .n * nodeSize (h .shape)) ⌝ }
+fn place_of(shape: Shape, h: &[u64; 87], level: u64) -> usize
+    requires { ⌜ (level < 16) × (placeAt (branchOf (now h)) level < shape .n) × Shaped shape ⌝ }
+    ensures { λ r. ⌜ (r ≡ standsAt (recordOf shape (now (h .entry))) level) × (r + nodeSize shape ≤ shape .n * nodeSize shape) ⌝ }
 {
-    let b = h.branch;
     let i = level as usize;
-    let place = b.places[i].0;
-    record::sound::stands_at(place, h.shape)
+    record::sound::stands_at(h[i] as u32, shape)
 }
 
 // "A header that changes is written whole."
-pub fn put_head(nodes: &mut [u8], h: History, level: u32, end: u64, state: u8)
-    requires { ⌜ Standing h level (now nodes) ⌝ }
-    ensures { λ _. ⌜ now (nodes .exit) ≡ putHead h level end state (now (nodes .entry)) ⌝ }
+pub fn put_head(nodes: &mut [u8], shape: Shape, h: &[u64; 87], level: u64, end: u64, state: u8)
+    requires { ⌜ Standing (recordOf shape (now h)) level (now nodes) ⌝ }
+    ensures { λ _. ⌜ now (nodes .exit) ≡ putHead (recordOf shape (now (h .entry))) level end state (now (nodes .entry)) ⌝ }
 {
-    let at = place_of(h, level);
+    let at = place_of(shape, h, level);
     let head = head_of(h, level, end, state);
     layout::put_header(nodes, at, head);
 }
 
 // A new node, whole.
-pub fn put_new(nodes: &mut [u8], h: History, level: u32, first: First)
-    requires { ⌜ Standing h level (now nodes) ⌝ }
-    ensures { λ _. ⌜ now (nodes .exit) ≡ putNew h level first (now (nodes .entry)) ⌝ }
+pub fn put_new(nodes: &mut [u8], shape: Shape, h: &[u64; 87], level: u64, first: First)
+    requires { ⌜ Standing (recordOf shape (now h)) level (now nodes) ⌝ }
+    ensures { λ _. ⌜ now (nodes .exit) ≡ putNew (recordOf shape (now (h .entry))) level first (now (nodes .entry)) ⌝ }
 {
-    let at = place_of(h, level);
+    let at = place_of(shape, h, level);
     let head = head_of(h, level, OPEN_END, 1);
-    layout::put_node(nodes, at, h.shape, head, first);
+    layout::put_node(nodes, at, shape, head, first);
 }
 
 // "Closing gives the node .. the end S": the lowest level, under an open one.
-pub fn close(nodes: &mut [u8], h: History) -> History
-    requires { ⌜ Firm h × Room h (now nodes) × (h .low < h .top) ⌝ }
-    ensures { λ r. ⌜ (r ≡ close (held h (now (nodes .entry))) .history) × (now (nodes .exit) ≡ close (held h (now (nodes .entry))) .nodes) ⌝ }
+pub fn close(nodes: &mut [u8], shape: Shape, h: &mut [u64; 87])
+    requires { ⌜ (length (now h) ≡ 87) × Firm (recordOf shape (now h)) × Room (recordOf shape (now h)) (now nodes) × (getD (now h) 85 0 < getD (now h) 86 0) ⌝ }
+    ensures { λ _. ⌜ Turns shape (now (h .entry)) (now (nodes .entry)) (now (h .exit)) (now (nodes .exit)) close ⌝ }
 {
-    put_head(nodes, h, h.low, h.largest_end, 2);
-    record::moves::closed(h)
+    let low = h[record::LOW];
+    let end = h[record::LARGEST_END];
+    put_head(nodes, shape, h, low, end, 2);
+    record::moves::closed(h);
 }
 
 // "If the root was closed, a new root is made first .. with the old root as its only child, which learns its parent in the same call."
-pub fn raise(nodes: &mut [u8], h: History) -> History
-    requires { ⌜ Firm h × Room h (now nodes) × (h .low ≡ h .top) × (h .top < 15) × (h .used < h .shape .n) ⌝ }
-    ensures { λ r. ⌜ (r ≡ raise (held h (now (nodes .entry))) .history) × (now (nodes .exit) ≡ raise (held h (now (nodes .entry))) .nodes) ⌝ }
+pub fn raise(nodes: &mut [u8], shape: Shape, h: &mut [u64; 87])
+    requires { ⌜ (length (now h) ≡ 87) × Firm (recordOf shape (now h)) × Room (recordOf shape (now h)) (now nodes) × (getD (now h) 85 0 ≡ getD (now h) 86 0) × (getD (now h) 86 0 < 15) × (getD (now h) 84 0 < shape .n) ⌝ }
+    ensures { λ _. ⌜ Turns shape (now (h .entry)) (now (nodes .entry)) (now (h .exit)) (now (nodes .exit)) raise ⌝ }
 {
-    let g = record::moves::raised(h);
-    put_head(nodes, g, h.top, h.largest_end, 2);
-    let b = h.branch;
-    let i = h.top as usize;
+    let root = h[record::TOP];
+    let end = h[record::LARGEST_END];
+    let i = root as usize;
     let child = Child {
-        sequence: b.places[i],
-        start: b.starts[i],
+        sequence: Seq(h[i] as u32),
+        start: h[record::STARTS + i],
     };
-    put_new(nodes, g, h.top + 1, First::OneChild(child));
-    g
-}
-
-// The parent's header and its new child entry.
-fn put_child(nodes: &mut [u8], h: History, g: History, start: u64, up: u32)
-    requires { ⌜ Standing h up (now nodes) × Standing g up (now nodes) × (childrenAt (h .branch) up < h .shape .c) ⌝ }
-    ensures { λ _. ⌜ now (nodes .exit) ≡ withChild h g start up (now (nodes .entry)) ⌝ }
-{
-    put_head(nodes, g, up, OPEN_END, 1);
-    let at = place_of(h, up);
-    let b = h.branch;
-    let i = up as usize;
-    let slot = layout::child_at(b.children[i] as u32);
-    layout::put_child(
-        nodes,
-        at + slot,
-        Child {
-            sequence: Seq(h.used),
-            start: start,
-        },
-    );
+    record::moves::raised(h);
+    put_head(nodes, shape, h, root, end, 2);
+    put_new(nodes, shape, h, root + 1, First::OneChild(child));
 }
 
 // A node of a chain under the lowest level: the parent's header and its new child entry, and the new node whole.
-pub fn make(nodes: &mut [u8], h: History, start: u64, level: u32) -> History
-    requires { ⌜ Firm h × Room h (now nodes) × (h .low ≡ level + 1) × (childrenAt (h .branch) (level + 1) < h .shape .c) × (h .used < h .shape .n) ⌝ }
-    ensures { λ r. ⌜ (r ≡ make start level (held h (now (nodes .entry))) .history) × (now (nodes .exit) ≡ make start level (held h (now (nodes .entry))) .nodes) ⌝ }
+pub fn make(nodes: &mut [u8], shape: Shape, h: &mut [u64; 87], start: u64, level: u64)
+    requires { ⌜ (length (now h) ≡ 87) × Firm (recordOf shape (now h)) × Room (recordOf shape (now h)) (now nodes) × (getD (now h) 85 0 ≡ level + 1) × (childrenAt (branchOf (now h)) (level + 1) < shape .c) × (getD (now h) 84 0 < shape .n) ⌝ }
+    ensures { λ _. ⌜ Turns shape (now (h .entry)) (now (nodes .entry)) (now (h .exit)) (now (nodes .exit)) (make start level) ⌝ }
 {
-    let g = record::moves::made(h, start, level);
-    put_child(nodes, h, g, start, level + 1);
-    put_new(nodes, g, level, First::Nothing);
-    g
+    let up = level + 1;
+    let slot = layout::child_at(h[record::CHILDREN + up as usize] as u32);
+    let at = place_of(shape, h, up);
+    let child = Child {
+        sequence: Seq(h[record::USED] as u32),
+        start: start,
+    };
+    record::moves::made(h, start, level);
+    put_head(nodes, shape, h, up, OPEN_END, 1);
+    layout::put_child(nodes, at + slot, child);
+    put_new(nodes, shape, h, level, First::Nothing);
 }
 
 // A level takes an interval: its header, and the entry.
-pub fn store(nodes: &mut [u8], h: History, e: Entry, level: u32) -> History
-    requires { ⌜ Firm h × Room h (now nodes) × (h .low ≤ level) × (level ≤ h .top) × (intervalsAt (h .branch) level < h .shape .k) ⌝ }
-    ensures { λ r. ⌜ (r ≡ store e level (held h (now (nodes .entry))) .history) × (now (nodes .exit) ≡ store e level (held h (now (nodes .entry))) .nodes) ⌝ }
+pub fn store(nodes: &mut [u8], shape: Shape, h: &mut [u64; 87], e: Entry, level: u64)
+    requires { ⌜ (length (now h) ≡ 87) × Firm (recordOf shape (now h)) × Room (recordOf shape (now h)) (now nodes) × (getD (now h) 85 0 ≤ level) × (level ≤ getD (now h) 86 0) × (intervalsAt (branchOf (now h)) level < shape .k) ⌝ }
+    ensures { λ _. ⌜ Turns shape (now (h .entry)) (now (nodes .entry)) (now (h .exit)) (now (nodes .exit)) (store e level) ⌝ }
 {
-    let g = record::moves::stored(h, level);
-    put_head(nodes, g, level, OPEN_END, 1);
-    let at = place_of(h, level);
-    let b = h.branch;
-    let i = level as usize;
-    let slot = layout::entry_at(h.shape, b.intervals[i] as u32);
-    layout::put_entry(nodes, at + slot, e);
-    g
-}
-
-// The parent of a level, of a branch with these places and this root.
-pub fn parent_on(places: [Seq; 16], top: u32, level: u32) -> Seq
-    requires { ⌜ top < 16 ⌝ }
-    ensures { λ r. ⌜ r ≡ parentOn places top level ⌝ }
-{
-    if level < top {
-        let i = (level + 1) as usize;
-        return places[i];
-    }
-    Seq(NO_PARENT)
-}
-
-// A node takes an interval, by one who keeps the counts beside the record: its header with one more than so many intervals, and the entry.
-pub fn store_on(
-    nodes: &mut [u8],
-    shape: Shape,
-    place: Seq,
-    start: u64,
-    parent: Seq,
-    intervals: u16,
-    children: u16,
-    level: u32,
-    e: Entry,
-)
-    requires { ⌜ Shaped shape × (place .0 < shape .n) × (shape .n * nodeSize shape ≤ length (now nodes)) × (level < 16) × (intervals < shape .k) ⌝ }
-    ensures { λ _. ⌜ now (nodes .exit) ≡ storedOn shape place start parent intervals children level e (now (nodes .entry)) ⌝ }
-{
-    let at = record::sound::stands_at(place.0, shape);
-    let head = Header {
-        start: start,
-        end: OPEN_END,
-        sequence: place,
-        parent: parent,
-        intervals: intervals + 1,
-        children: children,
-        level: level as u8,
-        state: 1,
-    };
-    layout::put_header(nodes, at, head);
-    let slot = layout::entry_at(shape, intervals as u32);
+    let slot = layout::entry_at(shape, h[record::INTERVALS + level as usize] as u32);
+    let at = place_of(shape, h, level);
+    record::moves::stored(h, level);
+    put_head(nodes, shape, h, level, OPEN_END, 1);
     layout::put_entry(nodes, at + slot, e);
 }

@@ -1,13 +1,12 @@
 // Where an interval goes. "To store an interval starting at s, take the lowest open node with start at or below s."
 use crate::Plan;
 use layout::Shape;
-use record::History;
 use record::Refusal;
 ghost use mathlib.Core.Path.{_≡_};
-ghost use mathlib.Core.Bool.{true, false};
 ghost use Prim.Native.Nat.{_+_, _-_, _≤_, _<_};
-ghost use Rattle.build.specs.Settle.{askUp, lowest, settle, needed, planRefusal};
-ghost use Rattle.build.specs.Lent.{ruledBy, begun, lent, pieces};
+ghost use lib.ListN.{getD};
+ghost use Rattle.record.specs.Record.{branchOf, recordOf};
+ghost use Rattle.build.specs.Settle.{ruled, askUp, lowest, taken, settle, needed, planRefusal};
 
 // What rules 1 and 2 say of a node.
 pub enum Verdict {
@@ -18,49 +17,29 @@ pub enum Verdict {
 
 // "1. If it is above level 0, has no open child, and s is after its last child's end: a child is due. With fewer than C children, make a chain ..
 // With C children, close it. 2. Otherwise store in it if it has fewer than K intervals, else close it."
-fn rule(
-    intervals: u16,
-    children: u16,
-    shape: Shape,
-    s: u64,
-    level: u32,
-    child: bool,
-    last: u64,
-) -> Verdict
-    ensures { λ r. ⌜ r ≡ ruledBy intervals children shape s level child last ⌝ }
+fn rule(shape: Shape, h: &[u64; 87], s: u64, level: u64, child: bool, last: u64) -> Verdict
+    requires { ⌜ level < 16 ⌝ }
+    ensures { λ r. ⌜ r ≡ ruled (branchOf (now (h .entry))) shape s level child last ⌝ }
 {
+    let i = level as usize;
     if !child & (0 < level) & (last < s) {
-        if (children as u32) < shape.c {
+        if h[record::CHILDREN + i] < shape.c as u64 {
             return Verdict::Chain;
         }
         return Verdict::Close;
     }
-    if (intervals as u32) < shape.k {
+    if h[record::INTERVALS + i] < shape.k as u64 {
         return Verdict::Here;
     }
     Verdict::Close
 }
 
-// "Then the same question is put again to the parent": the number of open levels left falls. Lent what it reads: a record
-// would be copied at each level.
-fn ask<'a>(
-    intervals: &'a [u16; 16],
-    children: &'a [u16; 16],
-    shape: Shape,
-    low: u32,
-    top: u32,
-    largest: u64,
-    s: u64,
-    level: u32,
-    child: bool,
-    last: u64,
-    closes: u32,
-) -> Plan
-    requires { ⌜ (level ≤ top) × (top < 16) × (low ≤ level) ⌝ }
-    ensures { λ r. ⌜ r ≡ askUp (top - level) (lent (now (intervals .entry)) (now (children .entry)) shape low top largest) s level child last closes ⌝ }
+// "Then the same question is put again to the parent": the number of open levels left falls.
+fn ask(shape: Shape, h: &[u64; 87], s: u64, level: u64, child: bool, last: u64, closes: u64) -> Plan
+    requires { ⌜ (getD (now h) 85 0 ≤ level) × (level ≤ getD (now h) 86 0) × (getD (now h) 86 0 < 16) ⌝ }
+    ensures { λ r. ⌜ r ≡ askUp (getD (now (h .entry)) 86 0 - level) (recordOf shape (now (h .entry))) s level child last closes ⌝ }
 {
-    let i = level as usize;
-    let v = rule(intervals[i], children[i], shape, s, level, child, last);
+    let v = rule(shape, h, s, level, child, last);
     match v {
         Verdict::Here => {
             return Plan {
@@ -79,39 +58,28 @@ fn ask<'a>(
         Verdict::Close => {}
     }
     let up = level + 1;
-    let gone = up - low;
-    if level == top {
+    let gone = up - h[record::LOW];
+    let ended = h[record::LARGEST_END]; // "Closing gives the node .. the end S", and it is the parent's last child
+    if level == h[record::TOP] {
         return Plan {
             closes: gone,
             level: up,
-            chain: largest < s,
+            chain: ended < s,
         };
     }
-    let ended = largest; // "Closing gives the node .. the end S", and it is the parent's last child
-    ask(
-        intervals,
-        children,
-        shape,
-        low,
-        top,
-        largest,
-        s,
-        up,
-        false,
-        ended,
-        gone,
-    )
+    ask(shape, h, s, up, false, ended, gone)
 }
 
 // The lowest open level with start at or below s, or the root's.
-fn seek(starts: &[u64; 16], s: u64, low: u32, top: u32) -> u32
-    requires { ⌜ (low ≤ top) × (top < 16) ⌝ }
-    ensures { λ r. ⌜ (r ≡ lowest (top - low) (begun (now (starts .entry))) s low) × (low ≤ r) × (r ≤ top) ⌝ }
+pub fn seek(h: &[u64; 87], s: u64) -> u64
+    requires { ⌜ (getD (now h) 85 0 ≤ getD (now h) 86 0) × (getD (now h) 86 0 < 16) ⌝ }
+    ensures { λ r. ⌜ (r ≡ lowest (getD (now (h .entry)) 86 0 - getD (now (h .entry)) 85 0) (branchOf (now (h .entry))) s (getD (now (h .entry)) 85 0)) × (getD (now (h .entry)) 85 0 ≤ r) × (r ≤ getD (now (h .entry)) 86 0) ⌝ }
 {
-    let mut level = low;
+    let top = h[record::TOP];
+    let mut level = h[record::LOW];
     while level < top {
-        let i = level as usize;
-        if starts[i] <= s {
+        let i = record::STARTS + level as usize;
+        if h[i] <= s {
             return level;
         }
         level += 1;
@@ -119,60 +87,30 @@ fn seek(starts: &[u64; 16], s: u64, low: u32, top: u32) -> u32
     level
 }
 
-// What is to be done to store an interval that starts at s, by one who is lent the pieces that this reads and keeps the counts beside the record.
-pub fn settle_on<'a>(
-    starts: &'a [u64; 16],
-    intervals: &'a [u16; 16],
-    children: &'a [u16; 16],
-    last_ends: &'a [u64; 16],
-    shape: Shape,
-    low: u32,
-    top: u32,
-    largest: u64,
-    s: u64,
-) -> Plan
-    requires { ⌜ (low ≤ top) × (top < 16) ⌝ }
-    ensures { λ r. ⌜ r ≡ settle (pieces (now (starts .entry)) (now (intervals .entry)) (now (children .entry)) (now («last_ends» .entry)) shape low top largest) s ⌝ }
+// Whether rule 2 has the interval stored in this open node, as most are: then nothing closes, no node is made, and no plan is needed.
+pub fn takes(shape: Shape, h: &[u64; 87], s: u64, level: u64) -> bool
+    requires { ⌜ level < 16 ⌝ }
+    ensures { λ r. ⌜ r ≡ taken (recordOf shape (now (h .entry))) s level ⌝ }
 {
-    let level = seek(starts, s, low, top);
     let i = level as usize;
-    let last = last_ends[i];
-    ask(
-        intervals,
-        children,
-        shape,
-        low,
-        top,
-        largest,
-        s,
-        level,
-        low < level,
-        last,
-        0,
-    )
+    if !(h[record::LOW] < level) & (0 < level) & (h[record::LAST_ENDS + i] < s) {
+        return false;
+    }
+    h[record::INTERVALS + i] < shape.k as u64
 }
 
-// The same, of a record.
-pub fn settle(h: History, s: u64) -> Plan
-    requires { ⌜ (h .low ≤ h .top) × (h .top < 16) ⌝ }
-    ensures { λ r. ⌜ r ≡ settle h s ⌝ }
+// What is to be done to store an interval that starts at s, from the lowest open level with start at or below s.
+pub fn settle(shape: Shape, h: &[u64; 87], s: u64, level: u64) -> Plan
+    requires { ⌜ (level ≡ lowest (getD (now h) 86 0 - getD (now h) 85 0) (branchOf (now h)) s (getD (now h) 85 0)) × (getD (now h) 85 0 ≤ level) × (level ≤ getD (now h) 86 0) × (getD (now h) 86 0 < 16) ⌝ }
+    ensures { λ r. ⌜ r ≡ settle (recordOf shape (now (h .entry))) s ⌝ }
 {
-    let b = h.branch;
-    settle_on(
-        &b.starts,
-        &b.intervals,
-        &b.children,
-        &b.last_ends,
-        h.shape,
-        h.low,
-        h.top,
-        h.largest_end,
-        s,
-    )
+    let last = h[record::LAST_ENDS + level as usize];
+    let child = h[record::LOW] < level;
+    ask(shape, h, s, level, child, last, 0)
 }
 
 // "Depth and room count what the rule would need": the new nodes of a plan.
-fn count(top: u32, p: Plan) -> u32
+fn count(top: u64, p: Plan) -> u64
     requires { ⌜ p .level < 16 ⌝ }
     ensures { λ r. ⌜ r ≡ needed top p ⌝ }
 {
@@ -189,15 +127,15 @@ fn count(top: u32, p: Plan) -> u32
 }
 
 // "Depth at most 16", N nodes: depth before room.
-pub fn refusal(h: History, p: Plan) -> Refusal
-    requires { ⌜ h .used ≤ h .shape .n ⌝ }
-    ensures { λ r. ⌜ r ≡ planRefusal h p ⌝ }
+pub fn refusal(shape: Shape, h: &[u64; 87], p: Plan) -> Refusal
+    requires { ⌜ getD (now h) 84 0 ≤ shape .n ⌝ }
+    ensures { λ r. ⌜ r ≡ planRefusal (recordOf shape (now (h .entry))) p ⌝ }
 {
     if 15 < p.level {
         return Refusal::Deep;
     }
-    let left = h.shape.n - h.used;
-    if left < count(h.top, p) {
+    let left = shape.n as u64 - h[record::USED];
+    if left < count(h[record::TOP], p) {
         return Refusal::NoRoom;
     }
     Refusal::Nothing

@@ -1,102 +1,93 @@
 // A plan carried out on the record alone: what finish tries before it writes.
 use crate::Plan;
-use crate::Tried;
 use crate::settle;
-use record::History;
+use layout::Shape;
 use record::Refusal;
 ghost use mathlib.Core.Path.{_≡_};
 ghost use Prim.Native.Nat.{_+_, _≤_};
-ghost use Rattle.record.specs.Levels.{lastEndAt};
+ghost use lib.ListN.{length};
+ghost use Rattle.record.specs.Record.{recordOf, Becomes};
 ghost use Rattle.record.specs.Sound.{lastTime};
 ghost use Rattle.record.specs.Firm.{Firm};
-ghost use Rattle.record.specs.Moves.{stored};
 ghost use Rattle.build.specs.Feasible.{Feasible};
 ghost use Rattle.build.specs.Carried.{Climbing, Descending, Hanging};
-ghost use Rattle.build.specs.Trial.{riseOn, climbOn, descendOn, planned, tried};
+ghost use Rattle.build.specs.Trial.{riseOn, climbOn, descendOn, chainOn, planned, tried};
 
 // One level up: the lowest closes, under a new root if it was the root.
-fn rise_on(h: History) -> History
-    requires { ⌜ Climbing h 1 ⌝ }
-    ensures { λ r. ⌜ r ≡ riseOn h ⌝ }
+fn rise_on(h: &mut [u64; 87])
+    requires { ⌜ (length (now h) ≡ 87) × ((s : Shape) × Climbing (recordOf s (now h)) 1) ⌝ }
+    ensures { λ _. ⌜ Becomes (now (h .entry)) (now (h .exit)) riseOn ⌝ }
 {
-    if h.low < h.top {
-        return record::moves::closed(h);
+    if h[record::LOW] < h[record::TOP] {
+        record::moves::closed(h);
+    } else {
+        record::moves::raised(h);
     }
-    record::moves::raised(h)
 }
 
-fn climb_on(h: History, n: u32) -> History
-    requires { ⌜ Climbing h n ⌝ }
-    ensures { λ r. ⌜ r ≡ climbOn n h ⌝ }
+fn climb_on(h: &mut [u64; 87], n: u64)
+    requires { ⌜ (length (now h) ≡ 87) × ((s : Shape) × Climbing (recordOf s (now h)) n) ⌝ }
+    ensures { λ _. ⌜ Becomes (now (h .entry)) (now (h .exit)) (climbOn n) ⌝ }
 {
-    let mut g = h;
     let mut left = n;
     while 0 < left {
         left -= 1;
-        g = rise_on(g);
+        rise_on(h);
     }
-    g
 }
 
 // "a chain of new nodes down to level 0, all starting" at start
-fn descend_on(h: History, start: u64, n: u32) -> History
-    requires { ⌜ Descending h n ⌝ }
-    ensures { λ r. ⌜ r ≡ descendOn start n h ⌝ }
+fn descend_on(h: &mut [u64; 87], start: u64, n: u64)
+    requires { ⌜ (length (now h) ≡ 87) × ((s : Shape) × Descending (recordOf s (now h)) n) ⌝ }
+    ensures { λ _. ⌜ Becomes (now (h .entry)) (now (h .exit)) (descendOn start n) ⌝ }
 {
-    let mut g = h;
     let mut level = n;
     while 0 < level {
         level -= 1;
-        g = record::moves::made(g, start, level);
+        record::moves::made(h, start, level);
     }
-    g
 }
 
 // "all starting one after that last end, and store in the lowest"
-fn chain_on(h: History, level: u32) -> History
-    requires { ⌜ Hanging h level ⌝ }
-    ensures { λ r. ⌜ r ≡ stored (descendOn (lastEndAt (h .branch) level + 1) level h) 0 ⌝ }
+fn chain_on(h: &mut [u64; 87], level: u64)
+    requires { ⌜ (length (now h) ≡ 87) × ((s : Shape) × Hanging (recordOf s (now h)) level) ⌝ }
+    ensures { λ _. ⌜ Becomes (now (h .entry)) (now (h .exit)) (chainOn level) ⌝ }
 {
-    let b = h.branch;
-    let i = level as usize;
-    let start = b.last_ends[i] + 1;
-    let g = descend_on(h, start, level);
-    record::moves::stored(g, 0)
+    let start = h[record::LAST_ENDS + level as usize] + 1;
+    descend_on(h, start, level);
+    record::moves::stored(h, 0);
 }
 
 // The record after an interval with this end is stored by the plan.
-fn planned(h: History, p: Plan, end: u64) -> History
-    requires { ⌜ Firm h × Feasible h p × (end ≤ lastTime) ⌝ }
-    ensures { λ r. ⌜ r ≡ planned p end h ⌝ }
+fn carry_on(h: &mut [u64; 87], p: Plan, end: u64)
+    requires { ⌜ (length (now h) ≡ 87) × (end ≤ lastTime) × ((s : Shape) × Firm (recordOf s (now h)) × Feasible (recordOf s (now h)) p) ⌝ }
+    ensures { λ _. ⌜ Becomes (now (h .entry)) (now (h .exit)) (planned p end) ⌝ }
 {
-    // neither a close nor a chain: straight to its node
-    if (p.closes == 0) & !p.chain {
-        return record::moves::stored(record::moves::stretched(h, end), p.level);
-    }
-    let g = climb_on(h, p.closes);
-    let s = record::moves::stretched(g, end);
+    climb_on(h, p.closes);
+    record::moves::stretched(h, end);
     if p.chain {
-        return chain_on(s, p.level);
+        chain_on(h, p.level);
+    } else {
+        record::moves::stored(h, p.level);
     }
-    record::moves::stored(s, p.level)
 }
 
 // An interval from s to end tried on the record.
-pub fn tried(h: History, s: u64, end: u64) -> Tried
-    requires { ⌜ Firm h × (end ≤ lastTime) ⌝ }
-    ensures { λ r. ⌜ r ≡ tried h s end ⌝ }
+pub fn tried(shape: Shape, h: &mut [u64; 87], s: u64, end: u64) -> Refusal
+    requires { ⌜ (length (now h) ≡ 87) × Firm (recordOf shape (now h)) × (end ≤ lastTime) ⌝ }
+    ensures { λ r. ⌜ (r ≡ tried (recordOf shape (now (h .entry))) s end .refusal) × (length (now (h .exit)) ≡ 87) × (recordOf shape (now (h .exit)) ≡ tried (recordOf shape (now (h .entry))) s end .history) ⌝ }
 {
-    let p = settle::settle(h, s);
-    let r = settle::refusal(h, p);
-    let Refusal::Nothing = r else {
-        return Tried {
-            refusal: r,
-            history: h,
-        };
-    };
-    let g = planned(h, p, end);
-    Tried {
-        refusal: Refusal::Nothing,
-        history: g,
+    let level = settle::seek(h, s);
+    if settle::takes(shape, h, s, level) {
+        record::moves::stretched(h, end);
+        record::moves::stored(h, level);
+        return Refusal::Nothing;
     }
+    let p = settle::settle(shape, h, s, level);
+    let what = settle::refusal(shape, h, p);
+    let Refusal::Nothing = what else {
+        return what;
+    };
+    carry_on(h, p, end);
+    Refusal::Nothing
 }

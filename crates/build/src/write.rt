@@ -1,124 +1,117 @@
 // A plan carried out on record and nodes; opening; closing all.
 use crate::Plan;
-use crate::Tried;
 use crate::moves;
 use crate::settle;
 use layout::Entry;
 use layout::First;
-use record::History;
+use layout::Shape;
 use record::Refusal;
 ghost use mathlib.Core.Path.{_≡_};
 ghost use Prim.Native.Nat.{_+_, _-_, _≤_, _<_};
+ghost use lib.ListN.{getD, length};
+ghost use Rattle.record.specs.Record.{recordOf};
 ghost use Rattle.record.specs.Sound.{lastTime};
 ghost use Rattle.record.specs.Firm.{Firm};
 ghost use Rattle.build.specs.Settle.{settle, planRefusal};
-ghost use Rattle.build.specs.Moves.{held, Room, Standing};
+ghost use Rattle.build.specs.Moves.{Room, Standing, Turns};
 ghost use Rattle.build.specs.Feasible.{Feasible};
 ghost use Rattle.build.specs.Carried.{Climbing, Descending, Hanging};
 ghost use Rattle.build.specs.Write.{rise, climb, descend, chained, written, inserted, closeAll, planted};
 
 // The lowest level closes.
-fn rise(nodes: &mut [u8], h: History) -> History
-    requires { ⌜ Climbing h 1 × Room h (now nodes) ⌝ }
-    ensures { λ r. ⌜ (r ≡ rise (held h (now (nodes .entry))) .history) × (now (nodes .exit) ≡ rise (held h (now (nodes .entry))) .nodes) ⌝ }
+fn rise(nodes: &mut [u8], shape: Shape, h: &mut [u64; 87])
+    requires { ⌜ (length (now h) ≡ 87) × Climbing (recordOf shape (now h)) 1 × Room (recordOf shape (now h)) (now nodes) ⌝ }
+    ensures { λ _. ⌜ Turns shape (now (h .entry)) (now (nodes .entry)) (now (h .exit)) (now (nodes .exit)) rise ⌝ }
 {
-    if h.low < h.top {
-        return moves::close(nodes, h);
+    if h[record::LOW] < h[record::TOP] {
+        moves::close(nodes, shape, h);
+    } else {
+        moves::raise(nodes, shape, h);
     }
-    moves::raise(nodes, h)
 }
 
-fn climb(nodes: &mut [u8], h: History, n: u32) -> History
-    requires { ⌜ Climbing h n × Room h (now nodes) ⌝ }
-    ensures { λ r. ⌜ (r ≡ climb n (held h (now (nodes .entry))) .history) × (now (nodes .exit) ≡ climb n (held h (now (nodes .entry))) .nodes) ⌝ }
+fn climb(nodes: &mut [u8], shape: Shape, h: &mut [u64; 87], n: u64)
+    requires { ⌜ (length (now h) ≡ 87) × Climbing (recordOf shape (now h)) n × Room (recordOf shape (now h)) (now nodes) ⌝ }
+    ensures { λ _. ⌜ Turns shape (now (h .entry)) (now (nodes .entry)) (now (h .exit)) (now (nodes .exit)) (climb n) ⌝ }
 {
-    let mut g = h;
-    let mut i: u32 = 0;
+    let mut i: u64 = 0;
     while i < n {
-        g = rise(nodes, g);
+        rise(nodes, shape, h);
         i += 1;
     }
-    g
 }
 
 // "a chain of new nodes down to level 0"
-fn descend(nodes: &mut [u8], h: History, start: u64, n: u32) -> History
-    requires { ⌜ Descending h n × Room h (now nodes) ⌝ }
-    ensures { λ r. ⌜ (r ≡ descend start n (held h (now (nodes .entry))) .history) × (now (nodes .exit) ≡ descend start n (held h (now (nodes .entry))) .nodes) ⌝ }
+fn descend(nodes: &mut [u8], shape: Shape, h: &mut [u64; 87], start: u64, n: u64)
+    requires { ⌜ (length (now h) ≡ 87) × Descending (recordOf shape (now h)) n × Room (recordOf shape (now h)) (now nodes) ⌝ }
+    ensures { λ _. ⌜ Turns shape (now (h .entry)) (now (nodes .entry)) (now (h .exit)) (now (nodes .exit)) (descend start n) ⌝ }
 {
-    let mut g = h;
     let mut level = n;
     while 0 < level {
         level -= 1;
-        g = moves::make(nodes, g, start, level);
+        moves::make(nodes, shape, h, start, level);
     }
-    g
 }
 
 // "all starting one after that last end, and store in the lowest"
-fn chain(nodes: &mut [u8], h: History, e: Entry, level: u32) -> History
-    requires { ⌜ Hanging h level × Room h (now nodes) ⌝ }
-    ensures { λ r. ⌜ (r ≡ chained e level (held h (now (nodes .entry))) .history) × (now (nodes .exit) ≡ chained e level (held h (now (nodes .entry))) .nodes) ⌝ }
+fn chain(nodes: &mut [u8], shape: Shape, h: &mut [u64; 87], e: Entry, level: u64)
+    requires { ⌜ (length (now h) ≡ 87) × Hanging (recordOf shape (now h)) level × Room (recordOf shape (now h)) (now nodes) ⌝ }
+    ensures { λ _. ⌜ Turns shape (now (h .entry)) (now (nodes .entry)) (now (h .exit)) (now (nodes .exit)) (chained e level) ⌝ }
 {
-    let b = h.branch;
-    let i = level as usize;
-    let start = b.last_ends[i] + 1;
-    let g = descend(nodes, h, start, level);
-    moves::store(nodes, g, e, 0)
+    let start = h[record::LAST_ENDS + level as usize] + 1;
+    descend(nodes, shape, h, start, level);
+    moves::store(nodes, shape, h, e, 0);
 }
 
-fn written(nodes: &mut [u8], h: History, p: Plan, e: Entry) -> History
-    requires { ⌜ Firm h × Room h (now nodes) × Feasible h p × (e .end ≤ lastTime) ⌝ }
-    ensures { λ r. ⌜ (r ≡ written e p (held h (now (nodes .entry))) .history) × (now (nodes .exit) ≡ written e p (held h (now (nodes .entry))) .nodes) ⌝ }
+fn written(nodes: &mut [u8], shape: Shape, h: &mut [u64; 87], p: Plan, e: Entry)
+    requires { ⌜ (length (now h) ≡ 87) × Firm (recordOf shape (now h)) × Room (recordOf shape (now h)) (now nodes) × Feasible (recordOf shape (now h)) p × (e .end ≤ lastTime) ⌝ }
+    ensures { λ _. ⌜ Turns shape (now (h .entry)) (now (nodes .entry)) (now (h .exit)) (now (nodes .exit)) (written e p) ⌝ }
 {
-    // neither a close nor a chain: straight to its node
-    if (p.closes == 0) & !p.chain {
-        return moves::store(nodes, record::moves::stretched(h, e.end), e, p.level);
-    }
-    let g = climb(nodes, h, p.closes);
-    let s = record::moves::stretched(g, e.end);
+    climb(nodes, shape, h, p.closes);
+    record::moves::stretched(h, e.end);
     if p.chain {
-        return chain(nodes, s, e, p.level);
+        chain(nodes, shape, h, e, p.level);
+    } else {
+        moves::store(nodes, shape, h, e, p.level);
     }
-    moves::store(nodes, s, e, p.level)
 }
 
 // Stores an interval, or does nothing where depth or room would not do.
-pub fn insert(nodes: &mut [u8], h: History, e: Entry) -> Tried
-    requires { ⌜ Firm h × Room h (now nodes) × (e .end ≤ lastTime) ⌝ }
-    ensures { λ r. ⌜ (r .refusal ≡ planRefusal h (settle h (e .start))) × (r .history ≡ inserted e (held h (now (nodes .entry))) .history) × (now (nodes .exit) ≡ inserted e (held h (now (nodes .entry))) .nodes) ⌝ }
+pub fn insert(nodes: &mut [u8], shape: Shape, h: &mut [u64; 87], e: Entry) -> Refusal
+    requires { ⌜ (length (now h) ≡ 87) × Firm (recordOf shape (now h)) × Room (recordOf shape (now h)) (now nodes) × (e .end ≤ lastTime) ⌝ }
+    ensures { λ r. ⌜ (r ≡ planRefusal (recordOf shape (now (h .entry))) (settle (recordOf shape (now (h .entry))) (e .start))) × Turns shape (now (h .entry)) (now (nodes .entry)) (now (h .exit)) (now (nodes .exit)) (inserted e) ⌝ }
 {
-    let p = settle::settle(h, e.start);
-    let r = settle::refusal(h, p);
-    let Refusal::Nothing = r else {
-        return Tried {
-            refusal: r,
-            history: h,
-        };
-    };
-    let g = written(nodes, h, p, e);
-    Tried {
-        refusal: Refusal::Nothing,
-        history: g,
+    let level = settle::seek(h, e.start);
+    if settle::takes(shape, h, e.start, level) {
+        record::moves::stretched(h, e.end);
+        moves::store(nodes, shape, h, e, level);
+        return Refusal::Nothing;
     }
+    let p = settle::settle(shape, h, e.start, level);
+    let what = settle::refusal(shape, h, p);
+    let Refusal::Nothing = what else {
+        return what;
+    };
+    written(nodes, shape, h, p, e);
+    Refusal::Nothing
 }
 
 // "then closes all open nodes with end T"
-pub fn close_all(nodes: &mut [u8], h: History, t: u64)
-    requires { ⌜ Firm h × Room h (now nodes) ⌝ }
-    ensures { λ _. ⌜ now (nodes .exit) ≡ closeAll h t (h .top + 1 - h .low) (h .low) (now (nodes .entry)) ⌝ }
+pub fn close_all(nodes: &mut [u8], shape: Shape, h: &[u64; 87], t: u64)
+    requires { ⌜ Firm (recordOf shape (now h)) × Room (recordOf shape (now h)) (now nodes) ⌝ }
+    ensures { λ _. ⌜ now (nodes .exit) ≡ closeAll (recordOf shape (now (h .entry))) t (getD (now (h .entry)) 86 0 + 1 - getD (now (h .entry)) 85 0) (getD (now (h .entry)) 85 0) (now (nodes .entry)) ⌝ }
 {
-    let mut level = h.low;
-    while level <= h.top {
-        moves::put_head(nodes, h, level, t, 2);
+    let mut level = h[record::LOW];
+    while level <= h[record::TOP] {
+        moves::put_head(nodes, shape, h, level, t, 2);
         level += 1;
     }
 }
 
 // "Opening makes node 0: level 0, open, empty, starting at the history's start."
-pub fn plant(nodes: &mut [u8], h: History)
-    requires { ⌜ Standing h 0 (now nodes) ⌝ }
-    ensures { λ _. ⌜ now (nodes .exit) ≡ planted h (now (nodes .entry)) ⌝ }
+pub fn plant(nodes: &mut [u8], shape: Shape, h: &[u64; 87])
+    requires { ⌜ Standing (recordOf shape (now h)) 0 (now nodes) ⌝ }
+    ensures { λ _. ⌜ now (nodes .exit) ≡ planted (recordOf shape (now (h .entry))) (now (nodes .entry)) ⌝ }
 {
-    moves::put_new(nodes, h, 0, First::Nothing);
+    moves::put_new(nodes, shape, h, 0, First::Nothing);
 }

@@ -8,7 +8,7 @@ use lib.Dec.{leb}
 use lib.ListN.{length}
 use borrow.Author.Tests.{leb-false}
 use Rattle.layout.specs.Layout.{entrySize}
-use Rattle.record.specs.declared.History.{History}
+use Rattle.record.specs.Record.{History}
 use Rattle.record.specs.declared.Refusal.{Refusal}
 use Rattle.record.specs.declared.Refusal.the-variants.{Nothing, Damaged, Short, Finished, TableFull}
 use Rattle.record.specs.Refusals.{accepted, firstOf}
@@ -16,7 +16,7 @@ use Rattle.record.specs.Sound.{sound, longEnough, admitted}
 use Rattle.record.specs.Moves.{withAttribute}
 use Rattle.transient.specs.declared.Ongoing.{Ongoing}
 use Rattle.transient.specs.Transient.{tableAt, begins, withOngoing}
-use Rattle.calls.specs.Outcome.{Comes, answered, outcome}
+use Rattle.calls.specs.Outcome.{answered, outcome}
 use Rattle.calls.specs.Add.{addRefusal, addOf}
 use Rattle.calls.proofs.Refused.{unadmitted, after-head, comes-refused, comes-done}
 
@@ -46,8 +46,6 @@ module _ (h : History) (nodes table : ℕ) (r : Refusal) (said : r ≡ admitted 
       pub add-fine : leb (table / entrySize) (h .attributes) || leb 4096 (h .attributes) ≡ false → Nothing ≡ addRefusal h nodes table
       add-fine f = let s : Nothing ≡ rest h table = rw (going, f) in s ∙ after
 
-pub ruleset add-ways = (add-finished, add-full, add-fine)
-
 -- ---- the call
 
 neither : (x y : Bool) → x || y ≡ false → (x ≡ false) × (y ≡ false)
@@ -75,12 +73,12 @@ module _ (h : History) (nodes table : ℕ) (r : Refusal) (said : r ≡ addRefusa
   add-small = omega (arith, leb-false 4096 (h .attributes) (neither (leb (table / entrySize) (h .attributes)) (leb 4096 (h .attributes)) not-full .1))
 
 module _ (h : History) (nodes table : List ℕ) (r : Refusal) (said : r ≡ addRefusal h (length nodes) (length table)) where
-  pub add-refused : accepted r ≡ false → Comes (answered r h) nodes table (addOf h nodes table)
+  pub add-refused : accepted r ≡ false → outcome (answered r h) nodes table ≡ addOf h nodes table
   unfolding addOf
   add-refused e = comes-refused r _ said h nodes table _ e
 
   pub added : (o : Ongoing) (left : List ℕ) (g : History) → r ≡ Nothing → o ≡ begins (h .start) → left ≡ withOngoing table (record { 0 = h .attributes }) o → g ≡ withAttribute h
-      → Comes (answered Nothing g) nodes left (addOf h nodes table)
+      → outcome (answered Nothing g) nodes left ≡ addOf h nodes table
   unfolding addOf
   added o left g e a b d =
       let is : outcome (answered Nothing g) nodes left ≡ outcome (answered Nothing (withAttribute h)) nodes (withOngoing table (record { 0 = h .attributes }) (begins (h .start))) = rw (d, b, a) in

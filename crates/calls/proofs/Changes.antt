@@ -9,9 +9,10 @@ use lib.IntN.{ℤ}
 use lib.ListN.{length}
 use borrow.Author.Tests.{le-leb, lt-leb, le-ltb, lt-ltb, leb-false, ltb-false, not-true, not-false}
 use Rattle.layout.specs.declared.Quark.{Quark}
+use Rattle.layout.specs.declared.Shape.{Shape}
 use Rattle.layout.specs.declared.Entry.{Entry}
 use Rattle.layout.specs.Layout.{entrySize}
-use Rattle.record.specs.declared.History.{History}
+use Rattle.record.specs.Record.{History}
 use Rattle.record.specs.declared.Refusal.{Refusal}
 use Rattle.record.specs.declared.Refusal.the-variants as R
 use Rattle.record.specs.Refusals.{accepted, firstOf, firstElse}
@@ -26,11 +27,9 @@ use Rattle.transient.specs.declared.Decision.the-variants as D
 use Rattle.transient.specs.Transient.{tableAt, ongoingAt, ongoingSound, interval, withOngoing, decide}
 use Rattle.transient.proofs.Sound.{ongoing-is}
 use Rattle.transient.proofs.Decisions.{ended-only}
-use Rattle.build.specs.declared.Tried.{Tried}
 use Rattle.build.specs.Settle.{settle, planRefusal}
 use Rattle.build.specs.Moves.{Held, held}
 use Rattle.build.specs.Write.{written, inserted}
-use Rattle.calls.specs.declared.Answer.{Answer}
 use Rattle.calls.specs.Outcome.{Comes, answered, outcome, orRefused}
 use Rattle.calls.specs.Change.{carried, changeRefusal, changeOf}
 use Rattle.calls.specs.Parts.{unasked, untimely, undone, carriedOut, Due}
@@ -104,8 +103,6 @@ module _ (h : History) (q : Quark) (nodes table : ℕ) (r : Refusal) (said : r �
       pub unasked-fine : q .0 < h .attributes → R.Nothing ≡ unasked h q nodes table
       unasked-fine lt = let s : R.Nothing ≡ rest h q = rw (going, lt-leb (h .attributes) (q .0) lt) in s ∙ after
 
-pub ruleset unasked-ways = (unasked-finished, unasked-quark, unasked-fine)
-
 -- ---- 3 entry, 6, 5
 
 module _ (h : History) (o : Ongoing) (t : ℕ) (x : Bool) (is : x ≡ ongoingSound o (h .start) (h .latest)) where
@@ -126,8 +123,6 @@ module _ (h : History) (o : Ongoing) (t : ℕ) (x : Bool) (is : x ≡ ongoingSou
       pub untimely-fine : h .latest ≤ t → R.Nothing ≡ untimely h o t
       unfolding untimely
       untimely-fine ge = simp (← is, not-false x m, le-ltb lastTime t le, le-ltb _ _ ge)
-
-pub ruleset untimely-ways = (untimely-damaged, untimely-outside, untimely-early, untimely-fine)
 
 -- ---- what the first two parts give where they do not refuse
 
@@ -182,33 +177,35 @@ pub entry-ends : (t : ℕ) (q : Quark) (o : Ongoing) (x : Entry) → x ≡ inter
 unfolding interval
 entry-ends t q o x is le = rw is (omega arith)
 
-module _ (h : History) (t : ℕ) (q : Quark) (o next : Ongoing) (nodes table : List ℕ) (x : Entry) (is : x ≡ interval q o (t - 1)) (r : Tried) (left : List ℕ) where
-  -- what build::write::insert says of itself
+module _ (h : History) (t : ℕ) (q : Quark) (o next : Ongoing) (nodes table : List ℕ) (x : Entry) (is : x ≡ interval q o (t - 1)) (r : Refusal) (g : History) (left : List ℕ) where
+  -- what build::write::insert says of itself, but the array's length
   abbrev Inserted : Type 0
-  Inserted = (r .refusal ≡ planRefusal h (settle h (x .start))) × (r .history ≡ inserted x (held h nodes) .history) × (left ≡ inserted x (held h nodes) .nodes)
+  Inserted = (r ≡ planRefusal h (settle h (x .start))) × (g ≡ inserted x (held h nodes) .history) × (left ≡ inserted x (held h nodes) .nodes)
 
   module _ (said : Inserted) where
-    plan : r .refusal ≡ undone h o (D.Ended next)
+    plan : r ≡ undone h o (D.Ended next)
     unfolding undone interval planRefusal
     plan = said .0 ∙ ap (λ (y : Entry). planRefusal h (settle h (y .start))) is
 
-    pub store-refused : accepted (r .refusal) ≡ false → Comes (answered (r .refusal) h) left table (carriedOut h t q o nodes table (D.Ended next))
+    pub store-refused : accepted r ≡ false → outcome (answered r g) left table ≡ carriedOut h t q o nodes table (D.Ended next)
     unfolding inserted
     store-refused e =
         let kept : inserted x (held h nodes) ≡ held h nodes = ap (λ (b : Bool). cond b (written x (settle h (x .start)) (held h nodes)) (held h nodes)) (ap accepted (sym (said .0)) ∙ e) in
-        let same : left ≡ nodes = said .2 ∙ ap (λ (σ : Held). σ .nodes) kept in
-        ap (λ (b : List ℕ). outcome (answered (r .refusal) h) b table) same ∙ comes-refused (r .refusal) _ plan h nodes table _ e
+        let hist : g ≡ h = said .1 ∙ ap (λ (σ : Held). σ .history) kept in
+        let byte : left ≡ nodes = said .2 ∙ ap (λ (σ : Held). σ .nodes) kept in
+        let same : outcome (answered r g) left table ≡ outcome (answered r h) nodes table = λ i. outcome (answered r (hist i)) (byte i) table in
+        same ∙ comes-refused r _ plan h nodes table _ e
 
-    pub store-done : (g : History) (rows : List ℕ) → r .refusal ≡ R.Nothing → g ≡ atTime (r .history) t → rows ≡ withOngoing table q next
-        → Comes (answered R.Nothing g) left rows (carriedOut h t q o nodes table (D.Ended next))
+    pub store-done : (f : History) (rows : List ℕ) → r ≡ R.Nothing → f ≡ atTime g t → rows ≡ withOngoing table q next
+        → outcome (answered R.Nothing f) left rows ≡ carriedOut h t q o nodes table (D.Ended next)
     unfolding carried
-    store-done g rows e a b =
+    store-done f rows e a b =
         let σ = inserted (interval q o (t - 1)) (held h nodes) in
-        let hist : r .history ≡ σ .history = said .1 ∙ ap (λ (y : Entry). inserted y (held h nodes) .history) is in
+        let hist : g ≡ σ .history = said .1 ∙ ap (λ (y : Entry). inserted y (held h nodes) .history) is in
         let byte : left ≡ σ .nodes = said .2 ∙ ap (λ (y : Entry). inserted y (held h nodes) .nodes) is in
-        let k : g ≡ atTime (σ .history) t = a ∙ ap (λ (y : History). atTime y t) hist in
-        let done : outcome (answered R.Nothing g) left rows ≡ outcome (answered R.Nothing (atTime (σ .history) t)) (σ .nodes) (withOngoing table q next) = λ i. outcome (answered R.Nothing (k i)) (byte i) (b i) in
-        done ∙ comes-done (r .refusal) _ plan h nodes table _ e
+        let k : f ≡ atTime (σ .history) t = a ∙ ap (λ (y : History). atTime y t) hist in
+        let done : outcome (answered R.Nothing f) left rows ≡ outcome (answered R.Nothing (atTime (σ .history) t)) (σ .nodes) (withOngoing table q next) = λ i. outcome (answered R.Nothing (k i)) (byte i) (b i) in
+        done ∙ comes-done r _ plan h nodes table _ e
 
 -- ---- the four decisions
 
@@ -216,27 +213,27 @@ module _ (h : History) (t : ℕ) (q : Quark) (o : Ongoing) (what : Change) (node
   by : (f : Decision) → d ≡ f → carriedOut h t q o nodes table f ≡ carriedOut h t q o nodes table (decide o t what)
   by f e = ap (carriedOut h t q o nodes table) (sym e ∙ is)
 
-  pub carry-top : d ≡ D.Top → Comes (answered R.Top h) nodes table (carriedOut h t q o nodes table (decide o t what))
+  pub carry-top : d ≡ D.Top → outcome (answered R.Top h) nodes table ≡ carriedOut h t q o nodes table (decide o t what)
   unfolding undone
   carry-top e = by D.Top e
 
-  pub carry-same : (g : History) → d ≡ D.Same → g ≡ atTime h t → Comes (answered R.Nothing g) nodes table (carriedOut h t q o nodes table (decide o t what))
+  pub carry-same : (g : History) → d ≡ D.Same → g ≡ atTime h t → outcome (answered R.Nothing g) nodes table ≡ carriedOut h t q o nodes table (decide o t what)
   unfolding undone carried
   carry-same g e a = ap (λ (y : History). outcome (answered R.Nothing y) nodes table) a ∙ by D.Same e
 
   pub carry-replaced : (next : Ongoing) (g : History) (rows : List ℕ) → d ≡ D.Replaced next → rows ≡ withOngoing table q next → g ≡ atTime h t
-      → Comes (answered R.Nothing g) nodes rows (carriedOut h t q o nodes table (decide o t what))
+      → outcome (answered R.Nothing g) nodes rows ≡ carriedOut h t q o nodes table (decide o t what)
   unfolding undone carried
   carry-replaced next g rows e b a =
       let done : outcome (answered R.Nothing g) nodes rows ≡ outcome (answered R.Nothing (atTime h t)) nodes (withOngoing table q next) = λ i. outcome (answered R.Nothing (a i)) nodes (b i) in
       done ∙ by (D.Replaced next) e
 
   module _ (next : Ongoing) (e : d ≡ D.Ended next) where
-    pub carry-due : Due h t q o nodes table → Due h t q o nodes table × (o .start < t)
-    carry-due f = (f, omega (arith, f .begun, ended-only o t what next (sym is ∙ e) .0))
+    pub carry-before : Due h t q o nodes table → o .start < t
+    carry-before f = omega (arith, f .begun, ended-only o t what next (sym is ∙ e) .0)
 
-    pub carry-ended : (a : Answer) (left rows : List ℕ) → Comes a left rows (carriedOut h t q o nodes table (D.Ended next)) → Comes a left rows (carriedOut h t q o nodes table (decide o t what))
-    carry-ended a left rows k = k ∙ by (D.Ended next) e
+    pub carry-ended : (r : Refusal) (s : Shape) (w left rows : List ℕ) → Comes r s w left rows (carriedOut h t q o nodes table (D.Ended next)) → Comes r s w left rows (carriedOut h t q o nodes table (decide o t what))
+    carry-ended r s w left rows k = (k .0, k .1 ∙ by (D.Ended next) e)
 
 -- ---- the call
 
@@ -250,7 +247,7 @@ module _ (h : History) (t : ℕ) (q : Quark) (what : Change) (nodes table : List
   parted : changeRefusal h t q what nodes table ≡ cond (accepted u) later u
   parted = change-parts h t q what nodes table ∙ ap (λ (x : Refusal). cond (accepted x) later x) (sym first)
 
-  pub change-unasked : accepted u ≡ false → Comes (answered u h) nodes table (changeOf h t q what nodes table)
+  pub change-unasked : accepted u ≡ false → outcome (answered u h) nodes table ≡ changeOf h t q what nodes table
   unfolding changeOf
   change-unasked e = comes-refused u _ (sym (parted ∙ refuses u later e)) h nodes table _ e
 
@@ -260,17 +257,19 @@ module _ (h : History) (t : ℕ) (q : Quark) (what : Change) (nodes table : List
         parted ∙ passes u later ok
         ∙ ap (λ (x : Refusal). cond (accepted x) last x) (sym (second ∙ ap (λ (y : Ongoing). untimely h y t) read))
 
-    pub change-untimely : accepted v ≡ false → Comes (answered v h) nodes table (changeOf h t q what nodes table)
+    pub change-untimely : accepted v ≡ false → outcome (answered v h) nodes table ≡ changeOf h t q what nodes table
     unfolding changeOf
     change-untimely e = comes-refused v _ (sym (timed ∙ refuses v last e)) h nodes table _ e
 
-    pub change-carried : v ≡ R.Nothing → (a : Answer) (left rows : List ℕ) → Comes a left rows (carriedOut h t q o nodes table (decide o t what)) → Comes a left rows (changeOf h t q what nodes table)
+    pub change-carried : v ≡ R.Nothing → (r : Refusal) (s : Shape) (w left rows : List ℕ) → Comes r s w left rows (carriedOut h t q o nodes table (decide o t what)) → Comes r s w left rows (changeOf h t q what nodes table)
     unfolding changeOf
-    change-carried e a left rows k =
-        k ∙ ap (λ (y : Ongoing). carriedOut h t q y nodes table (decide y t what)) read
-        ∙ ap (λ (x : Refusal). orRefused x h nodes table (carried h t q (ongoingAt table (q .0)) nodes table (decide (ongoingAt table (q .0)) t what))) (sym (timed ∙ passes v last e))
+    change-carried e r s w left rows k = (
+      k .0,
+      k .1 ∙ ap (λ (y : Ongoing). carriedOut h t q y nodes table (decide y t what)) read
+          ∙ ap (λ (x : Refusal). orRefused x h nodes table (carried h t q (ongoingAt table (q .0)) nodes table (decide (ongoingAt table (q .0)) t what))) (sym (timed ∙ passes v last e)),
+    )
 
 -- z is the value read back from its bits, as code has it
-pub set-back : (h : History) (t : ℕ) (q : Quark) (v z : ℤ) (nodes table : List ℕ) (a : Answer) (left rows : List ℕ) → z ≡ v
-    → Comes a left rows (changeOf h t q (Set z) nodes table) → Comes a left rows (changeOf h t q (Set v) nodes table)
-set-back h t q v z nodes table a left rows e k = k ∙ ap (λ (y : ℤ). changeOf h t q (Set y) nodes table) e
+pub set-back : (h : History) (t : ℕ) (q : Quark) (v z : ℤ) (nodes table : List ℕ) → z ≡ v → (r : Refusal) (s : Shape) (w left rows : List ℕ)
+    → Comes r s w left rows (changeOf h t q (Set z) nodes table) → Comes r s w left rows (changeOf h t q (Set v) nodes table)
+set-back h t q v z nodes table e r s w left rows k = (k .0, k .1 ∙ ap (λ (y : ℤ). changeOf h t q (Set y) nodes table) e)

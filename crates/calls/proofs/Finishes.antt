@@ -10,26 +10,25 @@ use lib.ListN.{length}
 use borrow.Author.Tests.{le-ltb, lt-ltb, ltb-false, not-true, not-false}
 use Rattle.layout.specs.declared.Entry.{Entry}
 use Rattle.layout.specs.Layout.{nodeSize, entrySize}
-use Rattle.record.specs.declared.History.{History}
+use Rattle.record.specs.Record.{History}
 use Rattle.record.specs.declared.Refusal.{Refusal}
 use Rattle.record.specs.declared.Refusal.the-variants as R
 use Rattle.record.specs.Refusals.{accepted, firstOf, firstElse}
 use Rattle.record.specs.Sound.{lastTime, sound, longEnough, all, admitted}
 use Rattle.record.specs.Moves.{finishedAt}
 use Rattle.record.specs.Firm.{Firm}
-use Rattle.record.proofs.Facts.{admitted-facts, sound-firm}
+use Rattle.record.proofs.Facts.{admitted-facts, sound-firm, sound-numbers}
 use Rattle.record.proofs.Runs.{all-none, all-fails, all-turn}
 use Rattle.transient.specs.declared.Ongoing.{Ongoing}
 use Rattle.transient.specs.Transient.{tableAt, ongoingAt, ongoingSound, interval}
-use Rattle.build.specs.declared.Tried.{Tried}
 use Rattle.build.specs.Moves.{Held, held, Room}
 use Rattle.build.specs.Write.{inserted, closeAll}
 use Rattle.build.specs.Settle.{settle, planRefusal}
-use Rattle.build.specs.Trial.{tried}
+use Rattle.build.specs.Trial.{Tried, tried}
 use Rattle.build.proofs.Trials.{tried-firm, tried-refusal}
 use Rattle.build.proofs.Steps.{inserted-history, inserted-length}
 use Rattle.build.proofs.Inserted.{inserted-firm, inserted-room}
-use Rattle.calls.specs.Outcome.{Outcome, Comes, answered, outcome}
+use Rattle.calls.specs.Outcome.{Outcome, answered, outcome}
 use Rattle.calls.specs.Finish.{allSound, trial, finishRefusal, storedFrom, finishOf}
 use Rattle.calls.proofs.Refused.{accepted-nothing, refuses, passes, unadmitted, after-head, comes-refused, comes-done}
 
@@ -41,25 +40,25 @@ entry-inside q attributes long lt le = omega arith
 
 -- ═══ Every entry is sound: what is left from the entry reached is the whole ═══
 
-abbrev pub soundFrom : History → List ℕ → ℕ → Bool
-soundFrom h table q = all (λ x. ongoingSound (ongoingAt table x) (h .start) (h .latest)) q (h .attributes - q)
+abbrev pub soundFrom : ℕ → ℕ → ℕ → List ℕ → ℕ → Bool
+soundFrom start latest n table q = all (λ x. ongoingSound (ongoingAt table x) start latest) q (n - q)
 
-pub entries-begin : (h : History) (table : List ℕ) → soundFrom h table 0 ≡ allSound h table
-unfolding allSound
-entries-begin h table = rw sub-zero
+module _ (h : History) (table : List ℕ) (q : ℕ) (so-far : soundFrom (h .start) (h .latest) (h .attributes) table q ≡ soundFrom (h .start) (h .latest) (h .attributes) table 0) where
+  entries : soundFrom (h .start) (h .latest) (h .attributes) table q ≡ allSound h table
+  unfolding allSound
+  entries = so-far ∙ rw sub-zero
 
-module _ (h : History) (table : List ℕ) (q : ℕ) (so-far : soundFrom h table q ≡ allSound h table) where
   pub entries-end : h .attributes ≤ q → true ≡ allSound h table
-  entries-end le = sym (all-none _ q (h .attributes - q) (omega arith)) ∙ so-far
+  entries-end le = sym (all-none _ q (h .attributes - q) (omega arith)) ∙ entries
 
   module _ (lt : q < h .attributes) (o : Ongoing) (read : o ≡ ongoingAt table q) (x : Bool) (is : x ≡ ongoingSound o (h .start) (h .latest)) where
     said : ongoingSound (ongoingAt table q) (h .start) (h .latest) ≡ x
     said = ap (λ (y : Ongoing). ongoingSound y (h .start) (h .latest)) (sym read) ∙ sym is
 
     pub entries-fail : not x ≡ true → false ≡ allSound h table
-    entries-fail n = sym (all-fails _ q (h .attributes - q) (h .attributes - (q + 1)) (omega arith) (said ∙ not-true x n)) ∙ so-far
+    entries-fail n = sym (all-fails _ q (h .attributes - q) (h .attributes - (q + 1)) (omega arith) (said ∙ not-true x n)) ∙ entries
 
-    pub entries-turn : not x ≡ false → soundFrom h table (q + 1) ≡ allSound h table
+    pub entries-turn : not x ≡ false → soundFrom (h .start) (h .latest) (h .attributes) table (q + 1) ≡ soundFrom (h .start) (h .latest) (h .attributes) table 0
     entries-turn n = sym (all-turn _ q (h .attributes - q) (q + 1) (h .attributes - (q + 1)) refl (omega arith) (said ∙ not-false x n)) ∙ so-far
 
 -- ═══ The trial run: what is left of it from the record reached is the whole ═══
@@ -72,28 +71,34 @@ module _ (n q : ℕ) (table : List ℕ) (t : ℕ) (g : History) (whole : Refusal
   unfolding trial
   trial-end le = let z : n - q ≡ 0 = omega arith in simp z at so-far
 
-  module _ (lt : q < n) (o : Ongoing) (read : o ≡ ongoingAt table q) (r : Tried) (is : r ≡ tried g (o .start) t) where
-    step : whole ≡ cond (accepted (r .refusal)) (trial (n - (q + 1)) (q + 1) table t (r .history)) (r .refusal)
+  module _ (lt : q < n) (o : Ongoing) (read : o ≡ ongoingAt table q) (r : Refusal) (is : r ≡ tried g (o .start) t .refusal) where
+    abbrev there : Tried
+    there = tried g (ongoingAt table q .start) t
+
+    here : tried g (o .start) t ≡ there
+    here = ap (λ (y : Ongoing). tried g (y .start) t) read
+
+    said-here : r ≡ there .refusal
+    said-here = is ∙ ap (λ (x : Tried). x .refusal) here
+
+    step : whole ≡ cond (accepted (there .refusal)) (trial (n - (q + 1)) (q + 1) table t (there .history)) (there .refusal)
     unfolding trial
-    step =
-        let z : n - q ≡ suc (n - (q + 1)) = omega arith in
-        let s : tried g (ongoingAt table q .start) t ≡ r = sym (is ∙ ap (λ (y : Ongoing). tried g (y .start) t) read) in
-        sym so-far ∙ ap (λ (m : ℕ). trial m q table t g) z
-        ∙ ap (λ (x : Tried). cond (accepted (x .refusal)) (trial (n - (q + 1)) (q + 1) table t (x .history)) (x .refusal)) s
+    step = let z : n - q ≡ suc (n - (q + 1)) = omega arith in sym so-far ∙ ap (λ (m : ℕ). trial m q table t g) z
 
-    pub trial-stops : accepted (r .refusal) ≡ false → r .refusal ≡ whole
-    trial-stops e = sym (step ∙ refuses (r .refusal) (trial (n - (q + 1)) (q + 1) table t (r .history)) e)
+    pub trial-stops : accepted r ≡ false → r ≡ whole
+    trial-stops e = said-here ∙ sym (step ∙ refuses (there .refusal) (trial (n - (q + 1)) (q + 1) table t (there .history)) (ap accepted (sym said-here) ∙ e))
 
-    pub trial-turn : r .refusal ≡ R.Nothing → trial (n - (q + 1)) (q + 1) table t (r .history) ≡ whole
-    trial-turn e = sym (step ∙ passes (r .refusal) (trial (n - (q + 1)) (q + 1) table t (r .history)) e)
+    pub trial-turn : r ≡ R.Nothing → (k : History) → k ≡ tried g (o .start) t .history → trial (n - (q + 1)) (q + 1) table t k ≡ whole
+    trial-turn e k f =
+        ap (trial (n - (q + 1)) (q + 1) table t) (f ∙ ap (λ (x : Tried). x .history) here)
+        ∙ sym (step ∙ passes (there .refusal) (trial (n - (q + 1)) (q + 1) table t (there .history)) (sym said-here ∙ e))
 
-pub trial-firm : (g : History) (s t : ℕ) (r : Tried) → r ≡ tried g s t → Firm g → t ≤ lastTime → Firm (r .history)
-trial-firm g s t r is f le = rw is (tried-firm g s t f le)
+pub trial-firm : (g k : History) (s t : ℕ) → k ≡ tried g s t .history → Firm g → t ≤ lastTime → Firm k
+trial-firm g k s t is f le = rw is (tried-firm g s t f le)
 
 -- ═══ Storing all: what is left to store from the entry reached is the whole ═══
 
 pub record StoreLeft (n : ℕ) (table : List ℕ) (t : ℕ) (h : History) (b : List ℕ) (q : ℕ) (g : History) (c : List ℕ) : Type 0 where
-  pub below : q ≤ n
   pub firm : Firm g
   pub room : Room g c
   pub long : length c ≡ length b
@@ -101,7 +106,7 @@ pub record StoreLeft (n : ℕ) (table : List ℕ) (t : ℕ) (h : History) (b : L
 
 module _ (n : ℕ) (table : List ℕ) (t : ℕ) (h : History) (b : List ℕ) where
   pub store-begins : Firm h → Room h b → StoreLeft n table t h b 0 h b
-  store-begins f room = record { below = omega arith; firm = f; room = room; long = refl; whole = ap (λ (m : ℕ). storedFrom m 0 table t (held h b)) (sub-zero n) }
+  store-begins f room = record { firm = f; room = room; long = refl; whole = ap (λ (m : ℕ). storedFrom m 0 table t (held h b)) (sub-zero n) }
 
   module _ (q : ℕ) (g : History) (c : List ℕ) (left : StoreLeft n table t h b q g c) where
     pub store-ends : n ≤ q → held g c ≡ storedFrom n 0 table t (held h b)
@@ -109,12 +114,9 @@ module _ (n : ℕ) (table : List ℕ) (t : ℕ) (h : History) (b : List ℕ) whe
     store-ends le = let z : n - q ≡ 0 = omega arith in simp z at (left .whole)
 
     module _ (last : t ≤ lastTime) (o : Ongoing) (x : Entry) (is : x ≡ interval (record { 0 = q }) o t) where
-      ends : x .end ≤ lastTime
+      pub store-ending : x .end ≤ lastTime
       unfolding interval
-      ends = rw is last
-
-      pub store-needs : Firm g × Room g c × (x .end ≤ lastTime)
-      store-needs = (left .firm, left .room, ends)
+      store-ending = rw is last
 
       pub store-turn : q < n → o ≡ ongoingAt table q → (k : History) (d : List ℕ) → k ≡ inserted x (held g c) .history → d ≡ inserted x (held g c) .nodes → StoreLeft n table t h b (q + 1) k d
       unfolding storedFrom
@@ -124,8 +126,7 @@ module _ (n : ℕ) (table : List ℕ) (t : ℕ) (h : History) (b : List ℕ) whe
           let entry : x ≡ interval (record { 0 = q }) (ongoingAt table q) t = is ∙ ap (λ (y : Ongoing). interval (record { 0 = q }) y t) read in
           let one : held k d ≡ inserted (interval (record { 0 = q }) (ongoingAt table q) t) (held g c) = both ∙ ap (λ (y : Entry). inserted y (held g c)) entry in
           record {
-            below = omega arith;
-            firm = subst Firm (sym a) (inserted-firm g c x (left .firm) ends);
+            firm = subst Firm (sym a) (inserted-firm g c x (left .firm) store-ending);
             room = subst (λ (σ : Held). Room (σ .history) (σ .nodes)) (sym both) (inserted-room g c x (left .room));
             long = ap length e ∙ inserted-length x (held g c) ∙ left .long;
             whole = ap (storedFrom (n - (q + 1)) (q + 1) table t) one ∙ sym (ap (λ (m : ℕ). storedFrom m q table t (held g c)) z) ∙ left .whole;
@@ -214,11 +215,11 @@ module _ (f x y z : Bool) (s : Refusal) where
 
 -- what the trial's table and record give
 module _ (h : History) (nodes long : ℕ) (r : Refusal) (said : r ≡ admitted h nodes long) (e : r ≡ R.Nothing) (going : h .finished ≡ false) where
-  pub entries-inside : h .attributes ≤ long / entrySize
-  entries-inside = admitted-facts h nodes long (sym said ∙ e) .2 going
+  pub entries-inside : (h .attributes ≤ long / entrySize) × (h .attributes ≤ 4096)
+  entries-inside = let f = admitted-facts h nodes long (sym said ∙ e) in (f .2 going, sound-numbers h (f .0) .attributes)
 
-  pub trial-needs : (t : ℕ) → t ≤ lastTime → Firm h × (h .attributes ≤ long / entrySize) × (t ≤ lastTime)
-  trial-needs t le = (sound-firm h (admitted-facts h nodes long (sym said ∙ e) .0) going, entries-inside, le)
+  pub trial-needs : (t : ℕ) → t ≤ lastTime → Firm h × (h .attributes ≤ long / entrySize) × (h .attributes ≤ 4096) × (t ≤ lastTime)
+  trial-needs t le = (sound-firm h (admitted-facts h nodes long (sym said ∙ e) .0) going, entries-inside .0, entries-inside .1, le)
 
 module _ (h : History) (t nodes : ℕ) (table : List ℕ) where
   abbrev rest : Refusal
@@ -275,10 +276,10 @@ module _ (h : History) (t nodes : ℕ) (table : List ℕ) (r : Refusal) (said : 
       go false b f x y z s k = no (cc)
 
   -- what the writing needs
-  pub finish-needs : Firm h × (h .shape .n * nodeSize (h .shape) ≤ nodes) × (h .attributes ≤ length table / entrySize) × (t ≤ lastTime)
+  pub finish-needs : Firm h × (h .shape .n * nodeSize (h .shape) ≤ nodes) × (h .attributes ≤ length table / entrySize) × (h .attributes ≤ 4096) × (t ≤ lastTime)
   finish-needs =
       let f = admitted-facts h nodes (length table) (granted .0) in
-      (sound-firm h (f .0) (granted .1), f .1, f .2 (granted .1), ltb-false lastTime t (granted .2))
+      (sound-firm h (f .0) (granted .1), f .1, f .2 (granted .1), sound-numbers h (f .0) .attributes, ltb-false lastTime t (granted .2))
 
 -- An accepted finish stores every interval: none is refused on the record that the earlier ones leave.
 pub finish-stores : (h : History) (t : ℕ) (nodes table : List ℕ) → finishRefusal h t (length nodes) table ≡ R.Nothing → (q : ℕ) → q < h .attributes
@@ -289,27 +290,33 @@ finish-stores h t nodes table e q lt =
     ∙ none-dropped (h .attributes) 0 table t (held h nodes) (granted h t (length nodes) table _ refl e .3) q lt
 
 module _ (h : History) (t : ℕ) (nodes table : List ℕ) (r : Refusal) (said : r ≡ finishRefusal h t (length nodes) table) where
-  pub finish-refused : accepted r ≡ false → Comes (answered r h) nodes table (finishOf h t nodes table)
+  pub finish-refused : accepted r ≡ false → outcome (answered r h) nodes table ≡ finishOf h t nodes table
   unfolding finishOf
   finish-refused e = comes-refused r _ said h nodes table _ e
 
-  module _ (e : r ≡ R.Nothing) where
-    module _ (g : History) (left : List ℕ) (all : held g left ≡ storedFrom (h .attributes) 0 table t (held h nodes)) where
+  module _ (e : r ≡ R.Nothing) (g : History) (left : List ℕ) where
+    abbrev whole : Held
+    whole = storedFrom (h .attributes) 0 table t (held h nodes)
+
+    module _ (gs : g ≡ whole .history) (lefts : left ≡ whole .nodes) where
+      both : held g left ≡ whole
+      both = λ i. held (gs i) (lefts i)
+
       pub close-needs : Firm g × Room g left
       close-needs =
           let n = finish-needs h t (length nodes) table r said e in
-          subst (λ (σ : Held). Firm (σ .history) × Room (σ .history) (σ .nodes)) (sym all)
-          (stored-firm (h .attributes) 0 table t (held h nodes) (n .3) (n .0), stored-room (h .attributes) 0 table t (held h nodes) (n .1))
+          subst (λ (σ : Held). Firm (σ .history) × Room (σ .history) (σ .nodes)) (sym both)
+          (stored-firm (h .attributes) 0 table t (held h nodes) (n .4) (n .0), stored-room (h .attributes) 0 table t (held h nodes) (n .1))
 
-      pub finished-needs : g .top < 4294967295
+      pub finished-needs : g .top < 16
       finished-needs = omega (arith, close-needs .0 .top)
 
-      pub finish-done : (k : History) (last : List ℕ) → last ≡ closeAll g t (g .top + 1 - g .low) (g .low) left → k ≡ finishedAt g t → Comes (answered R.Nothing k) last table (finishOf h t nodes table)
+      pub finish-done : (k : History) (last : List ℕ) → last ≡ closeAll g t (g .top + 1 - g .low) (g .low) left → k ≡ finishedAt g t → outcome (answered R.Nothing k) last table ≡ finishOf h t nodes table
       unfolding finishOf
-      finish-done k last a b = written ∙ ap end all ∙ comes-done r _ said h nodes table _ e
+      finish-done k last closed done = written ∙ ap end both ∙ comes-done r _ said h nodes table _ e
         where
           end : Held → Outcome
           end σ = outcome (answered R.Nothing (finishedAt (σ .history) t)) (closeAll (σ .history) t (σ .history .top + 1 - σ .history .low) (σ .history .low) (σ .nodes)) table
 
           written : outcome (answered R.Nothing k) last table ≡ end (held g left)
-          written = λ i. outcome (answered R.Nothing (b i)) (a i) table
+          written = λ i. outcome (answered R.Nothing (done i)) (closed i) table

@@ -6,7 +6,7 @@ use mathlib.Core.List.{List}
 use lib.ListN.{length}
 use Rattle.layout.specs.declared.Shape.{Shape}
 use Rattle.layout.specs.declared.Quark.{Quark}
-use Rattle.record.specs.declared.History.{History}
+use Rattle.record.specs.Record.{History, recordOf}
 use Rattle.record.specs.declared.Refusal.{Refusal}
 use Rattle.record.specs.declared.Refusal.the-variants as R
 use Rattle.record.specs.Refusals.{accepted}
@@ -20,16 +20,16 @@ use Rattle.transient.proofs.Table.{length-with}
 use Rattle.build.specs.Moves.{held}
 use Rattle.build.specs.Write.{closeAll, planted}
 use Rattle.build.proofs.Steps.{inserted-length, close-all-length, planted-length}
-use Rattle.calls.specs.declared.Answer.{Answer}
 use Rattle.calls.specs.Outcome.{Outcome, Comes, answered, outcome, orRefused}
 use Rattle.calls.specs.Exactly.{Given, Iff}
-use Rattle.calls.specs.Open.{blank, opened, tableOpened, openTests, openRefusal, openOf}
+use Rattle.calls.specs.Open.{blank, opened, tableOpened, openTests, openRefusal, openOn, openOf}
 use Rattle.calls.specs.Change.{carried, changeTests, changeRefusal, changeOf}
 use Rattle.calls.specs.Add.{addTests, addRefusal, addOf}
 use Rattle.calls.specs.Finish.{trial, finishTests, finishRefusal, storedFrom, finishOf}
 use Rattle.calls.proofs.Refused.{on-false, accepted-nothing}
 use Rattle.calls.proofs.Exactly.{exactly, exactly-else}
 use Rattle.calls.proofs.Finishes.{stored-length}
+use Rattle.calls.proofs.Settled.{record-settles}
 
 -- ---- of any call
 
@@ -62,11 +62,12 @@ module _ (r : Refusal) (h : History) (nodes table : List ℕ) (done : Outcome) w
       go true = e
       go false = refl
 
--- a promise leaves no freedom: two outcomes that it allows are equal
-pub comes-once : (o : Outcome) (a b : Answer) (nodes left table rows : List ℕ) → Comes a nodes table o → Comes b left rows o → (a ≡ b) × (nodes ≡ left) × (table ≡ rows)
-comes-once o a b nodes left table rows e f =
-    let g : outcome a nodes table ≡ outcome b left rows = e ∙ sym f in
-    (ap (λ (x : Outcome). x .answer) g, ap (λ (x : Outcome). x .nodes) g, ap (λ (x : Outcome). x .table) g)
+-- a promise leaves no freedom: what it allows, array and buffers, is equal
+module _ (o : Outcome) (s : Shape) (r r′ : Refusal) (w w′ nodes nodes′ table table′ : List ℕ) where
+  pub comes-once : Comes r s w nodes table o → Comes r′ s w′ nodes′ table′ o → (r ≡ r′) × (w ≡ w′) × (nodes ≡ nodes′) × (table ≡ table′)
+  comes-once e f =
+      let g : outcome (answered r (recordOf s w)) nodes table ≡ outcome (answered r′ (recordOf s w′)) nodes′ table′ = e .1 ∙ sym (f .1) in
+      (ap (λ (x : Outcome). x .answer .refusal) g, record-settles s w w′ (e .0) (f .0) (ap (λ (x : Outcome). x .answer .history) g), ap (λ (x : Outcome). x .nodes) g, ap (λ (x : Outcome). x .table) g)
 
 -- an equal number is given exactly then too
 by : (x y r : Refusal) (B : Type 0) → x ≡ y → Iff (y ≡ r) B → Iff (x ≡ r) B
@@ -85,17 +86,17 @@ module _ (start attributes : ℕ) (shape : Shape) (nodes table : List ℕ) where
   opens = outcome (answered R.Nothing (opened start attributes shape)) (planted (opened start attributes shape) nodes) (tableOpened start attributes 0 table)
 
   pub open-says : openOf start attributes shape nodes table .answer .refusal ≡ openRefusal start attributes shape (length nodes) (length table)
-  unfolding openOf
+  unfolding openOf openOn
   open-says = says (openRefusal start attributes shape (length nodes) (length table)) blank nodes table opens refl
 
   -- a refused opening: the record of zeros, nothing written
   pub open-kept : accepted (openRefusal start attributes shape (length nodes) (length table)) ≡ false
       → openOf start attributes shape nodes table ≡ outcome (answered (openRefusal start attributes shape (length nodes) (length table)) blank) nodes table
-  unfolding openOf
+  unfolding openOf openOn
   open-kept e = refused-kept (openRefusal start attributes shape (length nodes) (length table)) blank nodes table opens e
 
   pub open-lengths : (length (openOf start attributes shape nodes table .nodes) ≡ length nodes) × (length (openOf start attributes shape nodes table .table) ≡ length table)
-  unfolding openOf
+  unfolding openOf openOn
   open-lengths =
       let r = openRefusal start attributes shape (length nodes) (length table) in
       (long-nodes r blank nodes table opens (planted-length (opened start attributes shape) nodes), long-table r blank nodes table opens (opened-length start attributes 0 table))

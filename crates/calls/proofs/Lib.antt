@@ -4,5 +4,5 @@ pub mod Changes
 pub mod Additions
 pub mod Finishes
 pub mod Exactly
+pub mod Settled
 pub mod Kept
-pub mod Counts

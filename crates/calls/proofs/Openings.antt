@@ -5,11 +5,11 @@ use mathlib.Core.Bool.{Bool, true, false, not, _&&_, false≢true}
 use mathlib.Core.List.{List, [], _∷_}
 use native.Mathlib.Omega.{arith}
 use lib.Dec.{leb, lit<}
-use lib.ListN.{length}
+use lib.ListN.{length, replicate, set}
 use borrow.Author.Tests.{leb-true, not-true, not-false}
 use Rattle.layout.specs.declared.Shape.{Shape}
 use Rattle.layout.specs.Layout.{nodeSize, entrySize}
-use Rattle.record.specs.declared.History.{History}
+use Rattle.record.specs.Record.{History, sixteen, branchOf, recordOf}
 use Rattle.record.specs.declared.Refusal.{Refusal}
 use Rattle.record.specs.declared.Refusal.the-variants.{Nothing, Numbers, Short}
 use Rattle.record.specs.Refusals.{accepted, firstOf}
@@ -20,8 +20,8 @@ use Rattle.transient.specs.Transient.{tableAt, begins, withOngoing}
 use Rattle.transient.proofs.Table.{length-with}
 use Rattle.build.specs.Moves.{Standing}
 use Rattle.build.specs.Write.{planted}
-use Rattle.calls.specs.Outcome.{Comes, answered, outcome}
-use Rattle.calls.specs.Open.{blank, opened, tableOpened, openRefusal, openOf}
+use Rattle.calls.specs.Outcome.{answered, outcome}
+use Rattle.calls.specs.Open.{opened, tableOpened, openRefusal, openOn}
 use Rattle.calls.proofs.Refused.{comes-refused, comes-done}
 
 both : (a b : Bool) → a && b ≡ true → (a ≡ true) × (b ≡ true)
@@ -55,22 +55,19 @@ module _ (start attributes : ℕ) (shape : Shape) where
         first allowed (longEnough (opened start attributes shape) nodes table)
         (ap (λ (b : Bool). b && leb start lastTime && leb attributes 4096) (sym is) ∙ not-true (x && leb start lastTime && leb attributes 4096) e)
 
-    module _ (e : not (x && leb start lastTime && leb attributes 4096) ≡ false) (h : History) (made : h ≡ opened start attributes shape) where
+    module _ (e : not (x && leb start lastTime && leb attributes 4096) ≡ false) where
       in-range : allowed ≡ true
       in-range = ap (λ (b : Bool). b && leb start lastTime && leb attributes 4096) (sym is) ∙ not-false (x && leb start lastTime && leb attributes 4096) e
 
-      same-shape : h .shape ≡ shape
-      unfolding opened
-      same-shape = ap (λ (g : History). g .shape) made
-
-      pub open-small : (h .shape .n ≤ 65536) × (nodeSize (h .shape) ≤ 65536)
+      pub open-small : (shape .n ≤ 65536) × (nodeSize shape ≤ 65536)
       open-small =
           let f = sound-shaped shape (both (shapeAllowed shape) (leb start lastTime) (both (shapeAllowed shape && leb start lastTime) (leb attributes 4096) in-range .0) .0) in
-          rw same-shape (f .nodes, f .size)
+          (f .nodes, f .size)
 
-      module _ (y : Bool) (long : y ≡ longEnough h nodes table) where
+      module _ (y : Bool) (long : y ≡ leb (shape .n * nodeSize shape) nodes && leb attributes (table / entrySize)) where
         enough : longEnough (opened start attributes shape) nodes table ≡ y
-        enough = ap (λ (g : History). longEnough g nodes table) (sym made) ∙ sym long
+        unfolding longEnough opened
+        enough = sym long
 
         pub open-short : not y ≡ true → Short ≡ openRefusal start attributes shape nodes table
         unfolding openRefusal
@@ -79,6 +76,13 @@ module _ (start attributes : ℕ) (shape : Shape) where
         pub open-fine : not y ≡ false → Nothing ≡ openRefusal start attributes shape nodes table
         unfolding openRefusal
         open-fine n = none allowed (longEnough (opened start attributes shape) nodes table) in-range (enough ∙ not-false y n)
+
+-- ---- the record
+
+-- the array that is stored is that of a history that begins
+pub begun : (start attributes : ℕ) (s : Shape) → recordOf s (set (set (set (set (set (set (replicate 87 0) 16 start) 80 start) 81 start) 82 start) 83 attributes) 84 1) ≡ opened start attributes s
+unfolding branchOf sixteen opened
+begun start attributes s = refl
 
 -- ---- the table's first entries
 
@@ -135,8 +139,7 @@ module _ (start attributes : ℕ) (shape : Shape) (nodes table : ℕ) (r : Refus
   unfolding opened
   stands b n = record {
     shaped = sound-shaped shape shaped;
-    level = lit< tt;
-    top = lit< tt;
+    fitting = record { level = lit< tt; top = lit< tt; place = lit< tt; intervals = lit< tt; children = lit< tt; parent = λ lt. lit< tt };
     place = some;
     room = rw n (long .0);
   }
@@ -147,14 +150,14 @@ module _ (start attributes : ℕ) (shape : Shape) (nodes table : ℕ) (r : Refus
   pub opens-table : attributes * entrySize ≤ table
   opens-table = omega (arith, long .1)
 
-module _ (start attributes : ℕ) (shape : Shape) (nodes table : List ℕ) (r : Refusal) (said : r ≡ openRefusal start attributes shape (length nodes) (length table)) where
-  pub open-refused : (h : History) → h ≡ blank → accepted r ≡ false → Comes (answered r h) nodes table (openOf start attributes shape nodes table)
-  unfolding openOf
-  open-refused h i e = rw i (comes-refused r _ said blank nodes table _ e)
+module _ (start attributes : ℕ) (shape : Shape) (came : History) (nodes table : List ℕ) (r : Refusal) (said : r ≡ openRefusal start attributes shape (length nodes) (length table)) where
+  pub open-refused : accepted r ≡ false → outcome (answered r came) nodes table ≡ openOn came start attributes shape nodes table
+  unfolding openOn
+  open-refused e = comes-refused r _ said came nodes table _ e
 
   pub open-done : (h : History) (left rows : List ℕ) → r ≡ Nothing → h ≡ opened start attributes shape → left ≡ planted h nodes → rows ≡ tableOpened start attributes 0 table
-      → Comes (answered Nothing h) left rows (openOf start attributes shape nodes table)
-  unfolding openOf
+      → outcome (answered Nothing h) left rows ≡ openOn came start attributes shape nodes table
+  unfolding openOn
   open-done h left rows e i a b =
       let is : outcome (answered Nothing h) left rows ≡ outcome (answered Nothing (opened start attributes shape)) (planted (opened start attributes shape) nodes) (tableOpened start attributes 0 table) = rw (a, b, i) in
-      is ∙ comes-done r _ said blank nodes table _ e
+      is ∙ comes-done r _ said came nodes table _ e

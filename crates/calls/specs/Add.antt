@@ -5,7 +5,7 @@ use mathlib.Core.List.{List, [], _∷_}
 use lib.Dec.{leb}
 use lib.ListN.{length}
 use Rattle.layout.specs.Layout.{entrySize}
-use Rattle.record.specs.declared.History.{History}
+use Rattle.record.specs.Record.{History}
 use Rattle.record.specs.declared.Refusal.{Refusal}
 use Rattle.record.specs.declared.Refusal.the-variants.{Nothing, Damaged, Short, Finished, TableFull}
 use Rattle.record.specs.Refusals.{firstOf}

@@ -5,4 +5,3 @@ pub mod Parts
 pub mod Add
 pub mod Finish
 pub mod Exactly
-pub mod Counts

@@ -5,7 +5,7 @@ use mathlib.Core.List.{List, [], _∷_}
 use lib.Dec.{leb}
 use lib.ListN.{length, replicate, set}
 use Rattle.layout.specs.declared.Shape.{Shape}
-use Rattle.record.specs.declared.History.{History}
+use Rattle.record.specs.Record.{History}
 use Rattle.record.specs.declared.Refusal.{Refusal}
 use Rattle.record.specs.declared.Refusal.the-variants.{Nothing, Numbers, Short}
 use Rattle.record.specs.Refusals.{firstOf}
@@ -14,7 +14,7 @@ use Rattle.transient.specs.Transient.{begins, withOngoing}
 use Rattle.build.specs.Write.{planted}
 use Rattle.calls.specs.Outcome.{Outcome, answered, outcome, orRefused}
 
--- a record of zeros: what a refused opening gives
+-- a record of zeros: none came
 unfoldable pub blank : History
 blank = record {
   shape = record { k = 0; c = 0; n = 0 };
@@ -59,8 +59,13 @@ openTests start attributes shape nodes table =
 unfoldable pub openRefusal : ℕ → ℕ → Shape → ℕ → ℕ → Refusal
 openRefusal start attributes shape nodes table = firstOf (openTests start attributes shape nodes table)
 
-unfoldable pub openOf : ℕ → ℕ → Shape → List ℕ → List ℕ → Outcome
-openOf start attributes shape nodes table =
+-- beside a record that came
+unfoldable pub openOn : History → ℕ → ℕ → Shape → List ℕ → List ℕ → Outcome
+openOn came start attributes shape nodes table =
     let h = opened start attributes shape in
-    orRefused (openRefusal start attributes shape (length nodes) (length table)) blank nodes table
+    orRefused (openRefusal start attributes shape (length nodes) (length table)) came nodes table
     (outcome (answered Nothing h) (planted h nodes) (tableOpened start attributes 0 table))
+
+-- beside none
+unfoldable pub openOf : ℕ → ℕ → Shape → List ℕ → List ℕ → Outcome
+openOf start attributes shape nodes table = openOn blank start attributes shape nodes table

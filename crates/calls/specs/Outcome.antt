@@ -3,10 +3,16 @@ use Prim.Native.Nat.{ℕ}
 use mathlib.Core.Bool.{cond}
 use mathlib.Core.Path.{_≡_}
 use mathlib.Core.List.{List}
-use Rattle.record.specs.declared.History.{History}
+use lib.ListN.{length}
+use Rattle.layout.specs.declared.Shape.{Shape}
+use Rattle.record.specs.Record.{History, recordOf}
 use Rattle.record.specs.declared.Refusal.{Refusal}
 use Rattle.record.specs.Refusals.{accepted}
-use Rattle.calls.specs.declared.Answer.{Answer}
+
+-- what it says, and the record that it leaves: where refused, as it came
+pub record Answer : Type 0 where
+  pub refusal : Refusal
+  pub history : History
 
 pub record Outcome : Type 0 where
   pub answer : Answer
@@ -23,6 +29,7 @@ outcome a nodes table = record { answer = a; nodes = nodes; table = table }
 abbrev pub orRefused : Refusal → History → List ℕ → List ℕ → Outcome → Outcome
 orRefused r h nodes table done = cond (accepted r) done (outcome (answered r h) nodes table)
 
--- The promise of a call, one equation: what comes back is what its definition says.
-abbrev pub Comes : Answer → List ℕ → List ℕ → Outcome → Type 0
-Comes a nodes table o = outcome a nodes table ≡ o
+-- The promise of a call: what is said, the record that the shape and its array make, and every byte are what its definition says. No other array of
+-- 87 numbers makes the same record.
+abbrev pub Comes : Refusal → Shape → List ℕ → List ℕ → List ℕ → Outcome → Type 0
+Comes r s w nodes table o = (length w ≡ 87) × (outcome (answered r (recordOf s w)) nodes table ≡ o)

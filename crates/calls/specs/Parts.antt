@@ -7,7 +7,7 @@ use lib.Dec.{leb, ltb}
 use lib.ListN.{length}
 use Rattle.layout.specs.declared.Quark.{Quark}
 use Rattle.layout.specs.Layout.{entrySize}
-use Rattle.record.specs.declared.History.{History}
+use Rattle.record.specs.Record.{History}
 use Rattle.record.specs.declared.Refusal.{Refusal}
 use Rattle.record.specs.declared.Refusal.the-variants as R
 use Rattle.record.specs.Refusals.{firstOf}

@@ -1,14 +1,6 @@
-// The calls that change a history, on a record by value and two lent buffers: the nodes, and the ongoing table of 32 bytes an entry.
+// The calls that change a history: on its shape, its record, which is lent and changed in place, and two lent buffers: the nodes, and the
+// ongoing table of 32 bytes an entry. A call that is refused leaves all three as they came.
 pub mod opening; // opening.rt: open
 pub mod changing; // changing.rt: set, remove, increment
 pub mod adding; // adding.rt: add
 pub mod finishing; // finishing.rt: finish
-
-use record::History;
-use record::Refusal;
-
-// What a call says, and the record that it leaves: where refused, as it came (of an opening, zeros).
-pub struct Answer {
-    pub refusal: Refusal,
-    pub history: History,
-}

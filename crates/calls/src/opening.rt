@@ -1,66 +1,27 @@
 // Opening a history.
-use crate::Answer;
 use layout::Quark;
-use layout::Seq;
 use layout::Shape;
-use record::Branch;
-use record::History;
 use record::Refusal;
 ghost use mathlib.Core.Path.{_≡_};
 ghost use Prim.Native.Nat.{_*_, _≤_};
 ghost use lib.ListN.{length};
 ghost use Rattle.layout.specs.Layout.{entrySize};
+ghost use Rattle.record.specs.Record.{recordOf};
 ghost use Rattle.calls.specs.Outcome.{Comes};
-ghost use Rattle.calls.specs.Open.{blank, opened, tableOpened, openRefusal, openOf};
-
-// A record of zeros.
-pub fn blank() -> History
-    ensures { λ r. ⌜ r ≡ blank ⌝ }
-{
-    History {
-        shape: Shape { k: 0, c: 0, n: 0 },
-        start: 0,
-        latest: 0,
-        largest_end: 0,
-        attributes: 0,
-        used: 0,
-        low: 0,
-        top: 0,
-        finished: false,
-        branch: Branch {
-            places: [Seq(0); 16],
-            starts: [0u64; 16],
-            intervals: [0u16; 16],
-            children: [0u16; 16],
-            last_ends: [0u64; 16],
-        },
-    }
-}
+ghost use Rattle.calls.specs.Open.{opened, tableOpened, openRefusal, openOn};
 
 // The record of a history that begins.
-fn opened(start: u64, attributes: u32, shape: Shape) -> History
-    ensures { λ r. ⌜ r ≡ opened start attributes shape ⌝ }
+fn begin(h: &mut [u64; 87], start: u64, attributes: u32)
+    ensures { λ _. ⌜ (length (now (h .exit)) ≡ 87) × ((s : Shape) → recordOf s (now (h .exit)) ≡ opened start attributes s) ⌝ }
 {
-    let mut starts = [0u64; 16];
-    starts[0] = start;
-    History {
-        shape: shape,
-        start: start,
-        latest: start,
-        largest_end: start,
-        attributes: attributes,
-        used: 1,
-        low: 0,
-        top: 0,
-        finished: false,
-        branch: Branch {
-            places: [Seq(0); 16],
-            starts: starts,
-            intervals: [0u16; 16],
-            children: [0u16; 16],
-            last_ends: [0u64; 16],
-        },
-    }
+    let mut g = [0u64; 87];
+    g[record::STARTS] = start;
+    g[record::START] = start;
+    g[record::LATEST] = start;
+    g[record::LARGEST_END] = start;
+    g[record::ATTRIBUTES] = attributes as u64;
+    g[record::USED] = 1;
+    *h = g;
 }
 
 fn refusal(start: u64, attributes: u32, shape: Shape, nodes: usize, table: usize) -> Refusal
@@ -70,7 +31,7 @@ fn refusal(start: u64, attributes: u32, shape: Shape, nodes: usize, table: usize
     if !(allowed & (start <= record::sound::LAST_TIME) & (attributes <= 4096)) {
         return Refusal::Numbers;
     }
-    if !record::sound::long_enough(opened(start, attributes, shape), nodes, table) {
+    if !record::sound::long_enough(shape, attributes as u64, false, nodes, table) {
         return Refusal::Short;
     }
     Refusal::Nothing
@@ -88,22 +49,24 @@ fn open_table(table: &mut [u8], start: u64, attributes: u32)
     }
 }
 
-// Opens a history: node 0 and the first entries of the table are written, nothing else.
-pub fn open(start: u64, attributes: u32, shape: Shape, nodes: &mut [u8], table: &mut [u8]) -> Answer
-    ensures { λ r. ⌜ Comes r (now (nodes .exit)) (now (table .exit)) (openOf start attributes shape (now (nodes .entry)) (now (table .entry))) ⌝ }
+// Opens a history: its record, node 0 and the first entries of the table are written, nothing else. Refused, the record is as it came.
+pub fn open(
+    start: u64,
+    attributes: u32,
+    shape: Shape,
+    h: &mut [u64; 87],
+    nodes: &mut [u8],
+    table: &mut [u8],
+) -> Refusal
+    ensures { λ r. ⌜ Comes r shape (now (h .exit)) (now (nodes .exit)) (now (table .exit)) (openOn (recordOf shape (now (h .entry))) start attributes shape (now (nodes .entry)) (now (table .entry))) ⌝ }
 {
+    let all = record::sound::entire(h); // for the proof alone
     let r = refusal(start, attributes, shape, nodes.len(), table.len());
     let Refusal::Nothing = r else {
-        return Answer {
-            refusal: r,
-            history: blank(),
-        };
+        return r;
     };
-    let h = opened(start, attributes, shape);
-    build::write::plant(nodes, h);
+    begin(h, start, attributes);
+    build::write::plant(nodes, shape, h);
     open_table(table, start, attributes);
-    Answer {
-        refusal: Refusal::Nothing,
-        history: h,
-    }
+    Refusal::Nothing
 }

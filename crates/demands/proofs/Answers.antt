@@ -9,7 +9,7 @@ use lib.ListN.{length}
 use lib.Seq.{sets}
 use borrow.Author.Tests.{le-leb, lt-leb, eqb-true, ltb-false}
 use Rattle.layout.specs.Layout.{entrySize, entryBytes, spread}
-use Rattle.record.specs.declared.History.{History}
+use Rattle.record.specs.Record.{History}
 use Rattle.record.specs.declared.Refusal.the-variants as R
 use Rattle.record.specs.Refusals.{numberOf, accepted}
 use Rattle.questions.specs.declared.Single.{Single}

@@ -10,10 +10,10 @@ use borrow.Author.Tests.{leb-true, leb-false}
 use Rattle.layout.specs.declared.Shape.{Shape}
 use Rattle.layout.specs.declared.Header.{Header}
 use Rattle.layout.specs.Layout.{nodeSize, encode, readHeader}
-use Rattle.record.specs.declared.History.{History}
+use Rattle.record.specs.Record.{History}
 use Rattle.record.specs.declared.Refusal.the-variants as R
 use Rattle.record.proofs.Facts.{sound-numbers}
-use Rattle.questions.specs.View.{viewOf}
+use Rattle.walk.specs.View.{viewOf}
 use Rattle.model.specs.Transient as M
 use Rattle.model.specs.Nodes.{∞, Node, blank, stateOf}
 use Rattle.model.specs.Theorems.{Run, tree, made, called, Calls64}

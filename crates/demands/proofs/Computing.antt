@@ -13,9 +13,9 @@ use Rattle.calls.specs.Open as O
 use Rattle.calls.specs.Change as C
 use Rattle.calls.specs.Add as A
 use Rattle.calls.specs.Finish as F
-use Rattle.questions.specs.View as QV
-use Rattle.questions.specs.Rules as R
-use Rattle.questions.specs.Walk as QW
+use Rattle.walk.specs.View as QV
+use Rattle.walk.specs.Rules as R
+use Rattle.walk.specs.Walk as QW
 use Rattle.questions.specs.Found as QF
 use Rattle.questions.specs.Single as QS
 use Rattle.questions.specs.Full as QA
@@ -35,7 +35,7 @@ unfolding step run entries spoken boundsFrom nodesOf
     BS.ruled BS.followed BS.askUp BS.lowest BS.settle BS.needed BS.planRefusal
     BW.rise BW.climb BW.descend BW.stretch BW.placed BW.written BW.inserted BW.closeAll BW.planted
     BT.riseOn BT.climbOn BT.descendOn BT.placedOn BT.planned BT.tried
-    O.blank O.opened O.tableOpened O.openRefusal O.openOf
+    O.blank O.opened O.tableOpened O.openRefusal O.openOn O.openOf
     C.carried C.changeRefusal C.changeOf
     A.addRefusal A.addOf
     F.allSound F.trial F.finishRefusal F.storedFrom F.finishOf

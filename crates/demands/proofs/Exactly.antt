@@ -7,7 +7,7 @@ use lib.Dec.{ltb}
 use lib.ListN.{length, getD}
 use borrow.Author.Tests.{lt-leb}
 use Rattle.layout.specs.declared.Quark.{Quark}
-use Rattle.record.specs.declared.History.{History}
+use Rattle.record.specs.Record.{History}
 use Rattle.record.specs.declared.Refusal.{Refusal}
 use Rattle.record.specs.declared.Refusal.the-variants as R
 use Rattle.record.specs.Refusals.{numberOf, firstOf, accepted}
@@ -15,9 +15,8 @@ use Rattle.transient.specs.declared.Change.{Change}
 use Rattle.transient.specs.declared.Change.the-variants.{Set, Remove, Increment}
 use Rattle.transient.specs.Transient.{ongoingAt}
 use Rattle.build.specs.declared.Plan.{Plan}
-use Rattle.build.specs.declared.Tried.{Tried}
 use Rattle.build.specs.Settle.{settle, tooDeep, noRoom, planRefusal}
-use Rattle.build.specs.Trial.{planned, tried}
+use Rattle.build.specs.Trial.{Tried, planned, tried}
 use Rattle.calls.specs.Outcome.{Outcome}
 use Rattle.calls.specs.Open.{openRefusal, openOf}
 use Rattle.calls.specs.Change.{changeTests, changeRefusal}
@@ -27,8 +26,8 @@ use Rattle.calls.proofs.Exactly.{exactly as exactly-of}
 use Rattle.calls.proofs.Refused.{accepted-nothing}
 use Rattle.calls.proofs.Kept.{open-says, change-says, add-says, finish-says}
 use Rattle.questions.specs.declared.Single.{Single}
-use Rattle.questions.specs.View.{viewOf}
-use Rattle.questions.specs.Walk.{walkOf}
+use Rattle.walk.specs.View.{viewOf}
+use Rattle.walk.specs.Walk.{walkOf}
 use Rattle.questions.specs.Single.{refusedSingle, tableEntry, toldEntry, fromTable, singleAnswer, singleRefusal, singleOf}
 use Rattle.questions.specs.Full.{fullRefusal, fullOf}
 use Rattle.feed.specs.declared.Reading.the-variants as F

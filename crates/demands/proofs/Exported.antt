@@ -8,11 +8,11 @@ use lib.ListN.{length}
 use lib.Seq.{sets}
 use Rattle.words.specs.Words.{le}
 use Rattle.layout.specs.Layout.{entryBytes, spread}
-use Rattle.record.specs.declared.History.{History}
+use Rattle.record.specs.Record.{History}
 use Rattle.record.specs.declared.Refusal.{Refusal}
 use Rattle.record.specs.declared.Refusal.the-variants as R
 use Rattle.record.specs.Refusals.{numberOf, accepted}
-use Rattle.questions.specs.View.{viewOf}
+use Rattle.walk.specs.View.{viewOf}
 use Rattle.questions.specs.Single as one
 use Rattle.questions.specs.Full as all
 use Rattle.page.specs.Page as P

@@ -14,7 +14,7 @@ use Rattle.calls.specs.Change.{changeRefusal, changeOf}
 use Rattle.calls.specs.Add.{addRefusal, addOf}
 use Rattle.calls.specs.Finish.{finishRefusal, finishOf}
 use Rattle.calls.proofs.Kept.{change-says, change-kept, add-says, add-kept, finish-says, finish-kept}
-use Rattle.questions.specs.View.{viewOf}
+use Rattle.walk.specs.View.{viewOf}
 use Rattle.questions.specs.Single.{refusedSingle, singleAnswer, singleRefusal, singleOf}
 use Rattle.questions.specs.Full.{fullOf, fullWritten}
 use Rattle.page.specs.Page as P

@@ -11,7 +11,7 @@ use Rattle.words.specs.Words.{le}
 use Rattle.layout.specs.declared.Shape.{Shape}
 use Rattle.layout.specs.declared.Quark.{Quark}
 use Rattle.layout.specs.Layout.{entrySize, nodeSize, entryBytes, spread, readHeader}
-use Rattle.record.specs.declared.History.{History}
+use Rattle.record.specs.Record.{History, recordOf}
 use Rattle.record.specs.declared.Refusal.{Refusal}
 use Rattle.record.specs.declared.Refusal.the-variants.{Nothing}
 use Rattle.record.specs.Refusals.{numberOf, accepted, firstOf}
@@ -19,11 +19,11 @@ use Rattle.record.specs.Levels.{placeAt}
 use Rattle.transient.specs.declared.Change.the-variants.{Set, Remove, Increment}
 use Rattle.calls.specs.Outcome.{Outcome, Comes}
 use Rattle.calls.specs.Exactly.{Given, Iff}
-use Rattle.calls.specs.Open.{blank, openOf}
+use Rattle.calls.specs.Open.{openOn}
 use Rattle.calls.specs.Change.{changeOf}
 use Rattle.calls.specs.Add.{addOf}
 use Rattle.calls.specs.Finish.{finishOf}
-use Rattle.questions.specs.declared.View.{View}
+use Rattle.walk.specs.declared.View.{View}
 use Rattle.questions.specs.declared.Single.{Single}
 use Rattle.questions.specs.declared.Full.{Full}
 use Rattle.questions.specs.Single.{singleOf}
@@ -56,20 +56,26 @@ module _ {A : Type 0} where
 abbrev pub EquationSettles : Type 1
 EquationSettles = (A : Type 0) (z : A) → Settles {A = A} (λ x. x ≡ z)
 
--- a call's promise, of all that comes back
-abbrev pub Promised : Outcome → Outcome → Type 0
-Promised o x = Comes (x .answer) (x .nodes) (x .table) o
+-- all that comes back from a call: what it says, and every number and byte that it could write
+pub record Left : Type 0 where
+  pub refusal : Refusal
+  pub words : List ℕ
+  pub nodes : List ℕ
+  pub table : List ℕ
+
+-- a call's promise
+abbrev pub Promised : Shape → Outcome → Left → Type 0
+Promised s o x = Comes (x .refusal) s (x .words) (x .nodes) (x .table) o
 
 -- One line for each public function, with the promise that it is proved to keep: of its answer, and of every byte that it could write. (The functions of `questions`
 -- that only `page` and its own files call promise an equation too.)
 pub record Settled : Type 0 where
-  pub blank : Settles {A = History} (λ h. h ≡ blank)
-  pub opening : (start attributes : ℕ) (shape : Shape) (nodes table : List ℕ) → Settles (Promised (openOf start attributes shape nodes table))
-  pub set : (h : History) (t : ℕ) (q : Quark) (v : ℤ) (nodes table : List ℕ) → Settles (Promised (changeOf h t q (Set v) nodes table))
-  pub remove : (h : History) (t : ℕ) (q : Quark) (nodes table : List ℕ) → Settles (Promised (changeOf h t q Remove nodes table))
-  pub increment : (h : History) (t : ℕ) (q : Quark) (nodes table : List ℕ) → Settles (Promised (changeOf h t q Increment nodes table))
-  pub add : (h : History) (nodes table : List ℕ) → Settles (Promised (addOf h nodes table))
-  pub finish : (h : History) (t : ℕ) (nodes table : List ℕ) → Settles (Promised (finishOf h t nodes table))
+  pub opening : (start attributes : ℕ) (shape : Shape) (w nodes table : List ℕ) → Settles (Promised shape (openOn (recordOf shape w) start attributes shape nodes table))
+  pub set : (s : Shape) (w : List ℕ) (t : ℕ) (q : Quark) (v : ℤ) (nodes table : List ℕ) → Settles (Promised s (changeOf (recordOf s w) t q (Set v) nodes table))
+  pub remove : (s : Shape) (w : List ℕ) (t : ℕ) (q : Quark) (nodes table : List ℕ) → Settles (Promised s (changeOf (recordOf s w) t q Remove nodes table))
+  pub increment : (s : Shape) (w : List ℕ) (t : ℕ) (q : Quark) (nodes table : List ℕ) → Settles (Promised s (changeOf (recordOf s w) t q Increment nodes table))
+  pub add : (s : Shape) (w nodes table : List ℕ) → Settles (Promised s (addOf (recordOf s w) nodes table))
+  pub finish : (s : Shape) (w : List ℕ) (t : ℕ) (nodes table : List ℕ) → Settles (Promised s (finishOf (recordOf s w) t nodes table))
   pub single : (h : History) (t : ℕ) (q : Quark) (nodes table : List ℕ) → Settles {A = Single} (λ a. a ≡ singleOf h t q nodes table)
   pub full : (h : History) (t : ℕ) (nodes table b : List ℕ)
       → Settles {A = Full × List ℕ} (λ x. (x .0 ≡ fullOf h t nodes table (length b)) × (x .1 ≡ fullWritten h t nodes table b))

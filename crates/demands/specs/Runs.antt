@@ -7,7 +7,7 @@ use lib.ListN.{length}
 use Rattle.layout.specs.declared.Shape.{Shape}
 use Rattle.layout.specs.declared.Quark.{Quark}
 use Rattle.layout.specs.declared.Entry.{Entry}
-use Rattle.record.specs.declared.History.{History}
+use Rattle.record.specs.Record.{History}
 use Rattle.record.specs.declared.Refusal.{Refusal}
 use Rattle.record.specs.declared.Refusal.the-variants.{Nothing, NotOpen}
 use Rattle.record.specs.Refusals.{accepted}

@@ -5,7 +5,7 @@ use mathlib.Core.List.{List, [], _∷_, _++_}
 use lib.Dec.{leb, ltb}
 use lib.ListN.{length}
 use Rattle.layout.specs.Layout.{entrySize}
-use Rattle.record.specs.declared.History.{History}
+use Rattle.record.specs.Record.{History}
 use Rattle.record.specs.declared.Refusal.{Refusal}
 use Rattle.record.specs.declared.Refusal.the-variants.{Short, Damaged, Outside, NoQuark, Deep, NoRoom, NoTag, WrongLength, Cut, NotOpen, LongFeed}
 use Rattle.record.specs.Sound.{sound, longEnough}
@@ -17,9 +17,9 @@ use Rattle.calls.specs.Open.{openTests}
 use Rattle.calls.specs.Change.{changeTests}
 use Rattle.calls.specs.Add.{addTests}
 use Rattle.calls.specs.Finish.{finishTests}
-use Rattle.questions.specs.View.{viewOf, asked}
-use Rattle.questions.specs.Rules.{kept}
-use Rattle.questions.specs.Walk.{walkOf}
+use Rattle.walk.specs.View.{viewOf, asked}
+use Rattle.walk.specs.Rules.{kept}
+use Rattle.walk.specs.Walk.{walkOf}
 use Rattle.questions.specs.Single.{fromTable, told, entryFine}
 use Rattle.questions.specs.Full.{alone, everyQuark}
 use Rattle.feed.specs.Feed.{longest, tagKnown, lengthAllowed, tagAt, sizeAt}

@@ -1,5 +1,5 @@
 -- Feeds written out by hand, byte for byte, and what stands in them. Assumes nothing.
-use Prim.Native.Nat.{ℕ, _+_}
+use Prim.Native.Nat.{ℕ}
 use mathlib.Core.Path.{_≡_, refl}
 use mathlib.Core.List.{List, [], _∷_, _++_}
 use lib.IntN.{negsuc}

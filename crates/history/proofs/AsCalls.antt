@@ -4,7 +4,7 @@ use mathlib.Core.Path.{_≡_, refl, sym, ap, _∙_}
 use mathlib.Core.Bool.{Bool, true, false}
 use mathlib.Core.List.{List}
 use Rattle.layout.specs.declared.Shape.{Shape}
-use Rattle.record.specs.declared.History.{History}
+use Rattle.record.specs.Record.{History}
 use Rattle.record.specs.Refusals.{accepted}
 use Rattle.feed.specs.declared.Record.{Record}
 use Rattle.feed.specs.declared.Record.the-variants.{Open, Set, Remove, Increment, Add, Finish, Single, Full}
@@ -14,8 +14,7 @@ use Rattle.calls.proofs.Kept.{open-says, open-kept}
 use Rattle.demands.specs.Runs as R
 use Rattle.demands.specs.Runs.{step, anew, says}
 use Rattle.demands.specs.Feeds.{callOf}
-use Rattle.history.specs.declared.step.State.{State}
-use Rattle.history.specs.Step.{openedBy, after, afterOpen, opens, called, carried}
+use Rattle.history.specs.Step.{State, openedBy, after, afterOpen, opens, called, carried}
 use Rattle.history.specs.Calls.{stateOf, seen, RecordsAreCalls}
 
 abbrev pair : R.State → R.Answer → R.State × R.Answer

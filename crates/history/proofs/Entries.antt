@@ -5,9 +5,9 @@ use mathlib.Core.Bool.{Bool, true, false, cond, not, _||_}
 use mathlib.Core.List.{List}
 use native.Mathlib.Omega.{arith}
 use lib.Dec.{ltb}
-use lib.ListN.{length}
+use lib.ListN.{getD, length}
 use Rattle.layout.specs.Layout.{entrySize}
-use Rattle.record.specs.declared.History.{History}
+use Rattle.record.specs.Record.{History}
 use Rattle.record.specs.declared.Refusal.{Refusal}
 use Rattle.record.specs.declared.Refusal.the-variants as R
 use Rattle.record.specs.Sound.{sound, longEnough}
@@ -16,11 +16,10 @@ use Rattle.feed.specs.declared.Record.the-variants.{Open, Set, Remove, Incremen
 use Rattle.questions.specs.declared.Full as F
 use Rattle.questions.specs.Full.{fullOf, fullRefusal}
 use Rattle.questions.proofs.Heads.{full-room}
-use Rattle.history.specs.declared.step.State.{State}
 use Rattle.history.specs.declared.step.Shown.{Shown}
 use Rattle.history.specs.declared.step.Shown.the-variants.{Said, All}
-use Rattle.history.specs.declared.step.Done.{Done}
-use Rattle.history.specs.Step.{Carried, Leaves, leaving, done, openedBy, after, afterOpen, called, opens, carried, EntriesOf, Entries}
+use Rattle.history.specs.declared.step.Done as Coded
+use Rattle.history.specs.Step.{State, Carried, Leaves, leaving, done, openedBy, after, afterOpen, called, opens, carried, EntriesOf, Entries}
 
 no : {A : Type 0} → _≡_ {A = ℕ} 0 1 → A
 no e = absurd (omega arith)
@@ -50,9 +49,10 @@ module _ (s : State) (nodes table answer : List ℕ) where
   called-entries (Single t q) = tt
   called-entries (Full t) = full-fits (s .history) t nodes table answer
 
-  pub carried-entries : (r : Record) (d : Done) (left rows told : List ℕ) → Leaves d left rows told (carried r s nodes table answer) → length told ≡ length answer → Entries d (length told)
+  pub carried-entries : (r : Record) (d : Coded.Done) (w left rows told : List ℕ) → Leaves d w left rows told (carried r s nodes table answer) → length told ≡ length answer
+      → EntriesOf (d .shown) (getD w 83 0) (length told)
   unfolding carried EntriesOf
-  carried-entries r d left rows told is long = rw long (subst (λ (x : Carried). Entries (x .done) (length answer)) (sym is) (go (opens r || s .opened)))
+  carried-entries r d w left rows told is long = rw long (subst (λ (x : Carried). Entries (x .done) (length answer)) (sym (is .1)) (go (opens r || s .opened)))
     where
       go : (b : Bool) → Entries (cond b (called r s nodes table answer) (leaving (done s (Said R.NotOpen)) nodes table answer) .done) (length answer)
       go true = called-entries r

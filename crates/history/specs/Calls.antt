@@ -6,10 +6,9 @@ use Rattle.feed.specs.declared.Record.{Record}
 use Rattle.demands.specs.Runs as R
 use Rattle.demands.specs.Runs.{says, step}
 use Rattle.demands.specs.Feeds.{callOf}
-use Rattle.history.specs.declared.step.State.{State}
 use Rattle.history.specs.declared.step.Shown.{Shown}
 use Rattle.history.specs.declared.step.Shown.the-variants.{Said, One, All}
-use Rattle.history.specs.Step.{Carried, carried}
+use Rattle.history.specs.Step.{State, Carried, carried}
 
 abbrev pub stateOf : State → List ℕ → List ℕ → List ℕ → R.State
 stateOf s nodes table answer = record { begun = s .opened; history = s .history; nodes = nodes; table = table; answer = answer }

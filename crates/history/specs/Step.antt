@@ -5,26 +5,37 @@ use mathlib.Core.Path.{_≡_}
 use mathlib.Core.List.{List}
 use lib.ListN.{length}
 use Rattle.layout.specs.Layout.{entrySize}
-use Rattle.record.specs.declared.History.{History}
+use Rattle.layout.specs.declared.Shape.{Shape}
+use Rattle.record.specs.Record.{History, recordOf}
+use Rattle.record.specs.declared.Refusal.{Refusal}
 use Rattle.record.specs.declared.Refusal.the-variants.{Nothing, NotOpen}
 use Rattle.record.specs.Refusals.{accepted}
 use Rattle.transient.specs.declared.Change.the-variants as Change
 use Rattle.feed.specs.declared.Record.{Record}
 use Rattle.feed.specs.declared.Record.the-variants.{Open, Set, Remove, Increment, Add, Finish, Single, Full}
-use Rattle.calls.specs.declared.Answer.{Answer}
-use Rattle.calls.specs.Outcome.{Outcome}
+use Rattle.calls.specs.Outcome.{Answer, Outcome}
 use Rattle.calls.specs.Open.{blank, openOf}
 use Rattle.calls.specs.Change.{changeOf}
 use Rattle.calls.specs.Add.{addOf}
 use Rattle.calls.specs.Finish.{finishOf}
 use Rattle.questions.specs.Single.{singleOf}
 use Rattle.questions.specs.Full.{fullOf, fullWritten}
-use Rattle.history.specs.declared.step.State.{State}
+use Rattle.history.specs.declared.step.State as Code
 use Rattle.history.specs.declared.step.Shown.{Shown}
 use Rattle.history.specs.declared.step.Shown.the-variants.{Said, One, All}
-use Rattle.history.specs.declared.step.Done.{Done}
+use Rattle.history.specs.declared.step.Done as Coded
 
 -- ═══ What a record leaves ═══
+
+-- the history, once an opening was accepted
+pub record State : Type 0 where
+  pub opened : Bool
+  pub history : History
+
+-- the history and what is shown of the answer
+pub record Done : Type 0 where
+  pub state : State
+  pub shown : Shown
 
 -- the history with what is shown of the answer, and every byte of the three buffers
 pub record Carried : Type 0 where
@@ -36,12 +47,31 @@ pub record Carried : Type 0 where
 abbrev pub leaving : Done → List ℕ → List ℕ → List ℕ → Carried
 leaving d nodes table answer = record { done = d; nodes = nodes; table = table; answer = answer }
 
--- the promise, one equation: what is left is what the definition says
-abbrev pub Leaves : Done → List ℕ → List ℕ → List ℕ → Carried → Type 0
-Leaves d nodes table answer x = leaving d nodes table answer ≡ x
-
 abbrev pub done : State → Shown → Done
 done s x = record { state = s; shown = x }
+
+-- ═══ As the program keeps it: the shape beside the record's array ═══
+
+abbrev pub stateIn : Code.State → List ℕ → State
+stateIn s w = record { opened = s .opened; history = recordOf (s .shape) w }
+
+abbrev pub doneIn : Coded.Done → List ℕ → Done
+doneIn d w = done (stateIn (d .state) w) (d .shown)
+
+abbrev pub none : Code.State
+none = record { opened = false; shape = record { k = 0; c = 0; n = 0 } }
+
+abbrev pub openAs : Shape → Code.State
+openAs s = record { opened = true; shape = s }
+
+abbrev pub saidOf : Code.State → Refusal → Coded.Done
+saidOf s r = record { state = s; shown = Said r }
+
+-- the promise: what is left is what the definition says
+abbrev pub Leaves : Coded.Done → List ℕ → List ℕ → List ℕ → List ℕ → Carried → Type 0
+Leaves d w nodes table answer x = (length w ≡ 87) × (leaving (doneIn d w) nodes table answer ≡ x)
+
+-- ═══ What each answer leaves open ═══
 
 -- before the first record nothing is open
 abbrev pub unopened : State

@@ -12,17 +12,18 @@ fn turn(
     i: u64,
     r: Record,
     s: State,
+    h: &mut [u64; 87],
     nodes: &mut [u8],
     table: &mut [u8],
     answer: &mut [u8],
 ) -> State {
-    let d = step::carry_out(r, s, nodes, table, answer);
-    print::done(i, d, answer);
+    let d = step::carry_out(r, s, h, nodes, table, answer);
+    print::done(i, d, h[record::ATTRIBUTES], answer);
     d.state
 }
 
 // The records of a feed one after the other. Each place is past the last, so the feed ends.
-fn run(bytes: &[u8], nodes: &mut [u8], table: &mut [u8], answer: &mut [u8]) {
+fn run(bytes: &[u8], h: &mut [u64; 87], nodes: &mut [u8], table: &mut [u8], answer: &mut [u8]) {
     let mut s = step::unopened();
     let mut place = 0;
     let mut i: u64 = 0;
@@ -35,7 +36,7 @@ fn run(bytes: &[u8], nodes: &mut [u8], table: &mut [u8], answer: &mut [u8]) {
                 place = next;
             }
             Reading::Read(r, next) => {
-                s = turn(i, r, s, nodes, table, answer);
+                s = turn(i, r, s, h, nodes, table, answer);
                 place = next;
             }
         }
@@ -46,9 +47,10 @@ fn run(bytes: &[u8], nodes: &mut [u8], table: &mut [u8], answer: &mut [u8]) {
 // "with 32,768 node bytes and 64 table entries"; one byte more than the longest feed is read, to tell a longer one.
 fn main() {
     let mut bytes = [0u8; 65537];
+    let mut h = [0u64; 87];
     let mut nodes = [0u8; 32768];
     let mut table = [0u8; 2048];
     let mut answer = [0u8; 2048];
     let n = io::read_full(STDIN_FILENO, &mut bytes);
-    run(&bytes[..n], &mut nodes, &mut table, &mut answer);
+    run(&bytes[..n], &mut h, &mut nodes, &mut table, &mut answer);
 }

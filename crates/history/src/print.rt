@@ -11,7 +11,7 @@ ghost use Prim.Native.Nat.{_*_, _≤_};
 ghost use lib.ListN.{length};
 ghost use Rattle.layout.specs.Layout.{entrySize};
 ghost use Rattle.record.specs.declared.Refusal.the-variants.{Nothing};
-ghost use Rattle.history.specs.Step.{Entries};
+ghost use Rattle.history.specs.Step.{EntriesOf};
 
 fn number(x: u64) {
     io::write_all(STDOUT_FILENO, b" ");
@@ -63,17 +63,17 @@ fn single(i: u64, s: Single) {
 }
 
 // "a line per attribute: `=`, quark, start, end, kind, value"
-fn attribute(q: u32, e: Entry) {
+fn attribute(q: u64, e: Entry) {
     io::write_all(STDOUT_FILENO, b"=");
-    number(q as u64);
+    number(q);
     state(e);
     newline();
 }
 
-fn attributes(n: u32, answer: &[u8])
+fn attributes(n: u64, answer: &[u8])
     requires { ⌜ n * entrySize ≤ length (now answer) ⌝ }
 {
-    let mut q: u32 = 0;
+    let mut q: u64 = 0;
     while q < n {
         attribute(q, layout::read_entry(answer, q as usize * layout::ENTRY));
         q += 1;
@@ -81,7 +81,7 @@ fn attributes(n: u32, answer: &[u8])
 }
 
 // "Accepted full adds nodes entered, then a line per attribute"
-fn full(i: u64, f: Full, n: u32, answer: &[u8])
+fn full(i: u64, f: Full, n: u64, answer: &[u8])
     requires { ⌜ (f .refusal ≡ Nothing → n * entrySize ≤ length (now answer)) ⌝ }
 {
     let r = f.refusal;
@@ -95,10 +95,9 @@ fn full(i: u64, f: Full, n: u32, answer: &[u8])
     attributes(n, answer);
 }
 
-pub fn done(i: u64, d: Done, answer: &[u8])
-    requires { ⌜ Entries d (length (now answer)) ⌝ }
+pub fn done(i: u64, d: Done, n: u64, answer: &[u8])
+    requires { ⌜ EntriesOf (d .shown) n (length (now answer)) ⌝ }
 {
-    let n = d.state.history.attributes;
     let shown = d.shown;
     match shown {
         Shown::Said(r) => said(i, r),

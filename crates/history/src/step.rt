@@ -1,18 +1,19 @@
 // One record of a feed carried out on the history that is open.
-use calls::Answer;
 use feed::Record;
 use layout::Shape;
 use questions::Full;
 use questions::Single;
-use record::History;
 use record::Refusal;
 ghost use mathlib.Core.Path.{_≡_};
-ghost use Rattle.history.specs.Step.{Leaves, unopened, doneBy, openedBy, opens, called, carried};
+ghost use mathlib.Core.Bool.{cond};
+ghost use lib.ListN.{length};
+ghost use Rattle.record.specs.Refusals.{accepted};
+ghost use Rattle.history.specs.Step.{Leaves, stateIn, none, openAs, saidOf, opens, called, carried};
 
-// The history, once an opening was accepted.
+// Whether a history is open, and its shape; its record lies in an array beside this.
 pub struct State {
     pub opened: bool,
-    pub history: History,
+    pub shape: Shape,
 }
 
 // What there is to show of an answer.
@@ -27,43 +28,40 @@ pub struct Done {
     pub shown: Shown,
 }
 
-// Nothing is open: the record is zeros.
+// Nothing is open.
 pub fn unopened() -> State
-    ensures { λ s. ⌜ s ≡ unopened ⌝ }
+    ensures { λ s. ⌜ s ≡ none ⌝ }
 {
     State {
         opened: false,
-        history: calls::opening::blank(),
+        shape: Shape { k: 0, c: 0, n: 0 },
     }
 }
 
-// The history that a call leaves is open, whatever it answered.
-fn after(a: Answer) -> Done
-    ensures { λ d. ⌜ d ≡ doneBy a ⌝ }
+// The history of this shape is open, whatever was answered.
+fn after(shape: Shape, said: Refusal) -> Done
+    ensures { λ d. ⌜ d ≡ saidOf (openAs shape) said ⌝ }
 {
-    let h = a.history;
-    let said = a.refusal;
     Done {
         state: State {
             opened: true,
-            history: h,
+            shape: shape,
         },
         shown: Shown::Said(said),
     }
 }
 
 // "A second open starts anew; refused, it changes nothing."
-fn after_open(s: State, a: Answer) -> Done
-    ensures { λ d. ⌜ d ≡ openedBy s a ⌝ }
+fn after_open(s: State, shape: Shape, what: Refusal) -> Done
+    ensures { λ d. ⌜ d ≡ cond (accepted what) (saidOf (openAs shape) what) (saidOf s what) ⌝ }
 {
-    let what = a.refusal;
     let Refusal::Nothing = what else {
         return Done {
             state: s,
             shown: Shown::Said(what),
         };
     };
-    after(a)
+    after(shape, what)
 }
 
 fn opens(r: Record) -> bool
@@ -83,10 +81,18 @@ fn opens(r: Record) -> bool
 }
 
 // What a record does that is not answered 15.
-fn call(r: Record, s: State, nodes: &mut [u8], table: &mut [u8], answer: &mut [u8]) -> Done
-    ensures { λ d. ⌜ Leaves d (now (nodes .exit)) (now (table .exit)) (now (answer .exit)) (called r s (now (nodes .entry)) (now (table .entry)) (now (answer .entry))) ⌝ }
+fn call(
+    r: Record,
+    s: State,
+    h: &mut [u64; 87],
+    nodes: &mut [u8],
+    table: &mut [u8],
+    answer: &mut [u8],
+) -> Done
+    requires { ⌜ length (now h) ≡ 87 ⌝ }
+    ensures { λ d. ⌜ Leaves d (now (h .exit)) (now (nodes .exit)) (now (table .exit)) (now (answer .exit)) (called r (stateIn s (now (h .entry))) (now (nodes .entry)) (now (table .entry)) (now (answer .entry))) ⌝ }
 {
-    let h = s.history;
+    let shape = s.shape;
     match r {
         Record::Open {
             start,
@@ -94,48 +100,56 @@ fn call(r: Record, s: State, nodes: &mut [u8], table: &mut [u8], answer: &mut [u
             k,
             c,
             n,
-        } => after_open(
-            s,
-            calls::opening::open(start, attributes, Shape { k: k, c: c, n: n }, nodes, table),
+        } => {
+            let new = Shape { k: k, c: c, n: n };
+            after_open(
+                s,
+                new,
+                calls::opening::open(start, attributes, new, h, nodes, table),
+            )
+        }
+        Record::Set { t, quark, value } => after(
+            shape,
+            calls::changing::set(shape, h, t, quark, value, nodes, table),
         ),
-        Record::Set { t, quark, value } => after(calls::changing::set(
-            h,
-            t,
-            quark,
-            value,
-            nodes,
-            table,
-        )),
-        Record::Remove { t, quark } => after(calls::changing::remove(h, t, quark, nodes, table)),
-        Record::Increment { t, quark } => after(calls::changing::increment(
-            h,
-            t,
-            quark,
-            nodes,
-            table,
-        )),
-        Record::Add => after(calls::adding::add(h, nodes, table)),
-        Record::Finish { t } => after(calls::finishing::finish(h, t, nodes, table)),
+        Record::Remove { t, quark } => after(
+            shape,
+            calls::changing::remove(shape, h, t, quark, nodes, table),
+        ),
+        Record::Increment { t, quark } => after(
+            shape,
+            calls::changing::increment(shape, h, t, quark, nodes, table),
+        ),
+        Record::Add => after(shape, calls::adding::add(shape, h, nodes, table)),
+        Record::Finish { t } => after(shape, calls::finishing::finish(shape, h, t, nodes, table)),
         Record::Single { t, quark } => Done {
             state: s,
-            shown: Shown::One(questions::one::single(h, t, quark, nodes, table)),
+            shown: Shown::One(questions::one::single(shape, h, t, quark, nodes, table)),
         },
         Record::Full { t } => Done {
             state: s,
-            shown: Shown::All(questions::all::full(h, t, nodes, table, answer)),
+            shown: Shown::All(questions::all::full(shape, h, t, nodes, table, answer)),
         },
     }
 }
 
 // "15 no history open, tags 2 to 8": tested here, behind what the reader refuses and before anything that a call tests.
-pub fn carry_out(r: Record, s: State, nodes: &mut [u8], table: &mut [u8], answer: &mut [u8]) -> Done
-    ensures { λ d. ⌜ Leaves d (now (nodes .exit)) (now (table .exit)) (now (answer .exit)) (carried r s (now (nodes .entry)) (now (table .entry)) (now (answer .entry))) ⌝ }
+pub fn carry_out(
+    r: Record,
+    s: State,
+    h: &mut [u64; 87],
+    nodes: &mut [u8],
+    table: &mut [u8],
+    answer: &mut [u8],
+) -> Done
+    ensures { λ d. ⌜ Leaves d (now (h .exit)) (now (nodes .exit)) (now (table .exit)) (now (answer .exit)) (carried r (stateIn s (now (h .entry))) (now (nodes .entry)) (now (table .entry)) (now (answer .entry))) ⌝ }
 {
+    let all = record::sound::entire(h); // for the proof alone
     if !(opens(r) | s.opened) {
         return Done {
             state: s,
             shown: Shown::Said(Refusal::NotOpen),
         };
     }
-    call(r, s, nodes, table, answer)
+    call(r, s, h, nodes, table, answer)
 }

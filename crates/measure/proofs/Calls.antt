@@ -13,13 +13,13 @@ use Rattle.words.specs.Words.{le}
 use Rattle.words.proofs.Stores.{sets-append}
 use Rattle.words.proofs.Numbers.{length-le}
 use Rattle.layout.specs.declared.Entry.{Entry}
+use Rattle.layout.specs.declared.Shape.{Shape}
 use Rattle.layout.specs.Layout.{entryBytes}
-use Rattle.record.specs.declared.History.{History}
+use Rattle.record.specs.Record.{History, recordOf}
 use Rattle.record.specs.declared.Refusal.{Refusal}
 use Rattle.record.specs.Refusals.{numberOf}
 use Rattle.transient.specs.declared.Change.the-variants.{Set, Remove, Increment}
-use Rattle.calls.specs.declared.Answer.{Answer}
-use Rattle.calls.specs.Outcome.{Outcome, Comes}
+use Rattle.calls.specs.Outcome.{Outcome, answered, outcome, Comes}
 use Rattle.calls.specs.Change.{changeOf}
 use Rattle.calls.specs.Add.{addOf}
 use Rattle.calls.specs.Finish.{finishOf}
@@ -45,27 +45,30 @@ slot-put l l₁ l₂ l₃ at r v nodes e n p₁ p₂ p₃ =
 
 -- ---- which call
 
-module _ (h : History) (e : Entry) (nodes table : List ℕ) (a : Answer) (left rows : List ℕ) where
-  pub is-set : e .kind ≡ 0 → (z : ℤ) → z ≡ e .value → Comes a left rows (changeOf h (e .start) (e .quark) (Set z) nodes table) → Comes a left rows (callOf h e nodes table)
+module _ (h : History) (e : Entry) (nodes table : List ℕ) (r : Refusal) (s : Shape) (w left rows : List ℕ) where
+  abbrev Came : Outcome → Type 0
+  Came o = Comes r s w left rows o
+
+  pub is-set : e .kind ≡ 0 → (z : ℤ) → z ≡ e .value → Came (changeOf h (e .start) (e .quark) (Set z) nodes table) → Came (callOf h e nodes table)
   unfolding callOf
-  is-set k z b y = rw (eq-eqb (e .kind) 0 k) (y ∙ ap (λ (v : ℤ). changeOf h (e .start) (e .quark) (Set v) nodes table) b)
+  is-set k z b y = rw (eq-eqb (e .kind) 0 k) (y .0, y .1 ∙ ap (λ (v : ℤ). changeOf h (e .start) (e .quark) (Set v) nodes table) b)
 
   module _ (n₀ : e .kind ≡ 0 → ⊥) where
-    pub is-remove : e .kind ≡ 1 → Comes a left rows (changeOf h (e .start) (e .quark) Remove nodes table) → Comes a left rows (callOf h e nodes table)
+    pub is-remove : e .kind ≡ 1 → Came (changeOf h (e .start) (e .quark) Remove nodes table) → Came (callOf h e nodes table)
     unfolding callOf
     is-remove k y = rw (ne-eqb (e .kind) 0 n₀, eq-eqb (e .kind) 1 k) y
 
     module _ (n₁ : e .kind ≡ 1 → ⊥) where
-      pub is-increment : e .kind ≡ 2 → Comes a left rows (changeOf h (e .start) (e .quark) Increment nodes table) → Comes a left rows (callOf h e nodes table)
+      pub is-increment : e .kind ≡ 2 → Came (changeOf h (e .start) (e .quark) Increment nodes table) → Came (callOf h e nodes table)
       unfolding callOf
       is-increment k y = rw (ne-eqb (e .kind) 0 n₀, ne-eqb (e .kind) 1 n₁, eq-eqb (e .kind) 2 k) y
 
       module _ (n₂ : e .kind ≡ 2 → ⊥) where
-        pub is-add : e .kind ≡ 3 → Comes a left rows (addOf h nodes table) → Comes a left rows (callOf h e nodes table)
+        pub is-add : e .kind ≡ 3 → Came (addOf h nodes table) → Came (callOf h e nodes table)
         unfolding callOf
         is-add k y = rw (ne-eqb (e .kind) 0 n₀, ne-eqb (e .kind) 1 n₁, ne-eqb (e .kind) 2 n₂, eq-eqb (e .kind) 3 k) y
 
-        pub is-finish : (e .kind ≡ 3 → ⊥) → Comes a left rows (finishOf h (e .start) nodes table) → Comes a left rows (callOf h e nodes table)
+        pub is-finish : (e .kind ≡ 3 → ⊥) → Came (finishOf h (e .start) nodes table) → Came (callOf h e nodes table)
         unfolding callOf
         is-finish n₃ y = rw (ne-eqb (e .kind) 0 n₀, ne-eqb (e .kind) 1 n₁, ne-eqb (e .kind) 2 n₂, ne-eqb (e .kind) 3 n₃) y
 
@@ -96,21 +99,23 @@ module _ (e : Entry) (at : ℕ) (h : History) (nodes table answer said l : List 
         ∙ ap (λ (y : List ℕ). state h nodes table y (sets said at (slot (fullOf h (e .start) nodes table (length answer) .refusal) (fullOf h (e .start) nodes table (length answer) .nodes) e))) to
         ∙ chosen false true (ne-eqb (e .kind) 6 n₆) (eq-eqb (e .kind) 7 k)
 
-    module _ (n₇ : e .kind ≡ 7 → ⊥) (a : Answer) (left rows : List ℕ) (y : Comes a left rows (callOf h e nodes table)) (w : l ≡ sets said at (slot (a .refusal) 0 e)) where
+    module _ (n₇ : e .kind ≡ 7 → ⊥) (r : Refusal) (s : Shape) (w left rows : List ℕ) (says : l ≡ sets said at (slot r 0 e)) where
       abbrev after : Bool → Outcome → State
       after b o = state (cond b h (o .answer .history)) (o .nodes) (o .table) answer (sets said at (slot (o .answer .refusal) 0 e))
 
-      called : (b : Bool) → eqb (e .kind) 5 ≡ b → state (cond b h (a .history)) left rows answer l ≡ stepOf e at before
+      called : outcome (answered r (recordOf s w)) left rows ≡ callOf h e nodes table → (b : Bool) → eqb (e .kind) 5 ≡ b → state (cond b h (recordOf s w)) left rows answer l ≡ stepOf e at before
       unfolding calls
-      called b p =
-          ap (state (cond b h (a .history)) left rows answer) w
+      called y b p =
+          ap (state (cond b h (recordOf s w)) left rows answer) says
           ∙ ap (after b) y
           ∙ ap (λ (x : Bool). after x (callOf h e nodes table)) (sym p)
           ∙ chosen false false (ne-eqb (e .kind) 6 n₆) (ne-eqb (e .kind) 7 n₇)
 
-      -- a finish from which the script goes back
-      pub called-back : e .kind ≡ 5 → state h left rows answer l ≡ stepOf e at before
-      called-back k = called true (eq-eqb (e .kind) 5 k)
+      -- a finish of a copy: the record before it goes on
+      pub called-back : e .kind ≡ 5 → Comes r s w left rows (finishOf h (e .start) nodes table) → state h left rows answer l ≡ stepOf e at before
+      called-back k y =
+          let o = is-finish h e nodes table r s w left rows (λ z. omega (arith, k, z)) (λ z. omega (arith, k, z)) (λ z. omega (arith, k, z)) (λ z. omega (arith, k, z)) y in
+          called (o .1) true (eq-eqb (e .kind) 5 k)
 
-      pub called-on : (e .kind ≡ 5 → ⊥) → state (a .history) left rows answer l ≡ stepOf e at before
-      called-on n₅ = called false (ne-eqb (e .kind) 5 n₅)
+      pub called-on : (e .kind ≡ 5 → ⊥) → Comes r s w left rows (callOf h e nodes table) → (length w ≡ 87) × (state (recordOf s w) left rows answer l ≡ stepOf e at before)
+      called-on n₅ y = (y .0, called (y .1) false (ne-eqb (e .kind) 5 n₅))

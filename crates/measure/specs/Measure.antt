@@ -9,12 +9,12 @@ use Rattle.words.specs.Words.{le}
 use Rattle.layout.specs.declared.Entry.{Entry}
 use Rattle.layout.specs.declared.Shape.{Shape}
 use Rattle.layout.specs.Layout.{entryBytes, readEntry}
-use Rattle.record.specs.declared.History.{History}
+use Rattle.record.specs.Record.{History, recordOf}
 use Rattle.record.specs.declared.Refusal.{Refusal}
 use Rattle.record.specs.Refusals.{numberOf}
 use Rattle.transient.specs.declared.Change.the-variants.{Set, Remove, Increment}
 use Rattle.calls.specs.Outcome.{Outcome}
-use Rattle.calls.specs.Open.{openOf}
+use Rattle.calls.specs.Open.{openOn}
 use Rattle.calls.specs.Change.{changeOf}
 use Rattle.calls.specs.Add.{addOf}
 use Rattle.calls.specs.Finish.{finishOf}
@@ -95,10 +95,11 @@ pub record Measured : Type 0 where
 abbrev pub measured : ℕ → List ℕ → List ℕ → List ℕ → List ℕ → Measured
 measured number nodes table answer said = record { number = number; nodes = nodes; table = table; answer = answer; said = said }
 
--- a history is opened, and the script carried out on what the opening leaves
+-- a history is opened beside a record of zeros, and the script carried out on what the opening leaves
 unfoldable pub measureOf : (start attributes k c n : ℕ) (script nodes table answer said : List ℕ) → Measured
 measureOf start attributes k c n script nodes table answer said =
-    let o = openOf start attributes (record { k = k; c = c; n = n }) nodes table in
+    let shape : Shape = record { k = k; c = c; n = n } in
+    let o = openOn (recordOf shape (replicate 87 0)) start attributes shape nodes table in
     let σ = played script (state (o .answer .history) (o .nodes) (o .table) answer said) in
     measured (numberOf (o .answer .refusal)) (σ .nodes) (σ .table) (σ .answer) (σ .said)
 

@@ -14,11 +14,11 @@ use Rattle.layout.specs.Layout.{entrySize, entryBytes}
 use Rattle.record.specs.declared.Refusal.{Refusal}
 use Rattle.record.specs.declared.Refusal.the-variants.{Nothing, Short, Damaged, Outside, NoQuark}
 use Rattle.record.specs.Refusals.{numberOf, accepted}
-use Rattle.questions.specs.declared.View.{View}
+use Rattle.walk.specs.declared.View.{View}
 use Rattle.questions.specs.declared.Single.{Single}
 use Rattle.questions.specs.declared.Full.{Full}
-use Rattle.questions.specs.View.{viewSound, longFor, asked}
-use Rattle.questions.specs.Walk.{walkOf}
+use Rattle.walk.specs.View.{viewSound, longFor, asked}
+use Rattle.walk.specs.Walk.{walkOf}
 use Rattle.questions.specs.Single.{refusedSingle, told, toldEntry, walkedSingle}
 use Rattle.questions.specs.Full.{fullEntries, walkedRefusal, walkedFull, walkedWritten}
 use Rattle.page.specs.Page.{finishedView, headRefusal, singleRefusal, singleBytes, singleWritten, fullRefusal, fullBytes, fullWritten}

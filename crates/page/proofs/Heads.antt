@@ -13,10 +13,10 @@ use Rattle.record.specs.declared.Refusal.the-variants.{Nothing, Numbers, Short,
 use Rattle.record.specs.Refusals.{numberOf, accepted}
 use Rattle.record.specs.Sound.{lastTime, shapeAllowed}
 use Rattle.record.proofs.Facts.{sound-shaped}
-use Rattle.questions.specs.declared.View.{View}
-use Rattle.questions.specs.View.{viewSound, longFor, asked, Roomy}
-use Rattle.questions.proofs.Broken.{and-left, and-right}
-use Rattle.questions.proofs.Singles.{long-nodes}
+use Rattle.walk.specs.declared.View.{View}
+use Rattle.walk.specs.View.{viewSound, longFor, asked, Roomy}
+use Rattle.walk.proofs.Broken.{and-left, and-right}
+use Rattle.walk.proofs.Admitted.{long-nodes}
 use Rattle.page.specs.Page.{headRefusal}
 
 -- ---- a number is 0 where accepted, and only there

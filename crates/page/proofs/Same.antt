@@ -12,14 +12,14 @@ use Rattle.words.specs.Words.{le}
 use Rattle.layout.specs.declared.Entry.{Entry}
 use Rattle.layout.specs.declared.Quark.{Quark}
 use Rattle.layout.specs.Layout.{entrySize, entryBytes}
-use Rattle.record.specs.declared.History.{History}
+use Rattle.record.specs.Record.{History}
 use Rattle.record.specs.Refusals.{accepted}
 use Rattle.record.specs.Levels.{placeAt}
 use Rattle.record.specs.Sound.{lastTime, shapeAllowed, numbersSound, branchSound, sound, longEnough}
 use Rattle.record.proofs.Facts.{sound-numbers, sound-root}
-use Rattle.questions.specs.declared.View.{View}
-use Rattle.questions.specs.View.{viewOf, viewSound, longFor}
-use Rattle.questions.specs.Walk.{walkOf}
+use Rattle.walk.specs.declared.View.{View}
+use Rattle.walk.specs.View.{viewOf, viewSound, longFor}
+use Rattle.walk.specs.Walk.{walkOf}
 use Rattle.questions.specs.Single.{toldEntry, fromTable, entryFine, singleAnswer, singleOf}
 use Rattle.questions.specs.Single as one
 use Rattle.questions.specs.Full.{alone, fullEntry, everyQuark, fullEntries, fullOf}

@@ -10,10 +10,10 @@ use Rattle.layout.specs.Layout.{entrySize, entryBytes}
 use Rattle.record.specs.declared.Refusal.{Refusal}
 use Rattle.record.specs.declared.Refusal.the-variants.{Short, Damaged, Outside, NoQuark}
 use Rattle.record.specs.Refusals.{firstOf, accepted}
-use Rattle.questions.specs.declared.View.{View}
-use Rattle.questions.specs.View.{viewSound, longFor, asked}
-use Rattle.questions.specs.Rules.{kept}
-use Rattle.questions.specs.Walk.{walkOf}
+use Rattle.walk.specs.declared.View.{View}
+use Rattle.walk.specs.View.{viewSound, longFor, asked}
+use Rattle.walk.specs.Rules.{kept}
+use Rattle.walk.specs.Walk.{walkOf}
 use Rattle.questions.specs.Single.{told, toldEntry, entryFine}
 use Rattle.questions.specs.Full.{alone, everyQuark, fullEntries}
 

@@ -2,8 +2,8 @@
 use layout::Quark;
 use layout::Seq;
 use layout::Shape;
-use questions::View;
 use record::Refusal;
+use walk::View;
 ghost use mathlib.Core.Path.{_≡_};
 ghost use mathlib.Core.Bool.{true};
 ghost use lib.ListN.{length};
@@ -41,17 +41,17 @@ fn finished_view(
 fn head(v: View, nodes: usize, answer: usize, wants: usize, known: bool, t: u64) -> Refusal
     ensures { λ r. ⌜ r ≡ headRefusal v nodes answer wants known t ⌝ }
 {
-    if !questions::known::view_sound(v) {
+    if !walk::known::view_sound(v) {
         return Refusal::Damaged;
     }
-    let long = questions::known::long_for(v, nodes, 0);
+    let long = walk::known::long_for(v, nodes, 0);
     if !long | (answer < wants) {
         return Refusal::Short;
     }
     if !known {
         return Refusal::NoQuark;
     }
-    if !questions::known::asked(v, t) {
+    if !walk::known::asked(v, t) {
         return Refusal::Outside;
     }
     Refusal::Nothing

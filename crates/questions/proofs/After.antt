@@ -8,10 +8,10 @@ use lib.Dec.{eqb}
 use borrow.Author.Tests.{ne-eqb, eqb-true, eqb-false}
 use Rattle.layout.specs.declared.Entry.{Entry}
 use Rattle.layout.specs.Layout.{entrySize, entryAt, readHeader, readEntry}
-use Rattle.questions.specs.declared.View.{View}
-use Rattle.questions.specs.declared.Walk.{Walk}
-use Rattle.questions.specs.Rules.{broken, kept, covers}
-use Rattle.questions.specs.Walk.{placeOf, step}
+use Rattle.walk.specs.declared.View.{View}
+use Rattle.walk.specs.declared.Walk.{Walk}
+use Rattle.walk.specs.Rules.{broken, kept, covers}
+use Rattle.walk.specs.Walk.{placeOf, step}
 use Rattle.questions.specs.Found.{many, more, noted, look, lookIn, lookAt, found}
 
 abbrev pub After : (ℕ → ℕ) → Type 0

@@ -10,16 +10,16 @@ use borrow.Author.Tests.{eq-eqb, ne-eqb, not-false}
 use Rattle.layout.specs.declared.Entry.{Entry}
 use Rattle.layout.specs.declared.Header.{Header}
 use Rattle.layout.specs.Layout.{entrySize, nodeSize, entryAt, readHeader, readEntry}
-use Rattle.questions.specs.declared.View.{View}
-use Rattle.questions.specs.declared.Walk.{Walk}
-use Rattle.questions.specs.declared.Rule.{Rule}
-use Rattle.questions.specs.View.{Roomy}
-use Rattle.questions.specs.Rules.{broken, kept, covers}
-use Rattle.questions.specs.Walk.{placeOf, rootOf, step}
+use Rattle.walk.specs.declared.View.{View}
+use Rattle.walk.specs.declared.Walk.{Walk}
+use Rattle.walk.specs.declared.Rule.{Rule}
+use Rattle.walk.specs.View.{Roomy}
+use Rattle.walk.specs.Rules.{broken, kept, covers}
+use Rattle.walk.specs.Walk.{placeOf, rootOf, step}
 use Rattle.questions.specs.Found.{many, more, noted, look, lookIn, lookAt, found, foundOf, shown}
-use Rattle.questions.proofs.Room.{entries-room, place-room, place-small}
-use Rattle.questions.proofs.Broken.{false-is, kept-fits}
-use Rattle.questions.proofs.Walks.{step-keeps, root-inside}
+use Rattle.walk.proofs.Room.{entries-room, place-room, place-small}
+use Rattle.walk.proofs.Broken.{false-is, kept-fits}
+use Rattle.walk.proofs.Walks.{step-keeps, root-inside}
 
 -- ---- one entry
 

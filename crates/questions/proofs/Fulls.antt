@@ -16,18 +16,18 @@ use Rattle.layout.proofs.Parts.{length-entry}
 use Rattle.record.specs.declared.Refusal.the-variants.{Nothing, Damaged}
 use Rattle.transient.specs.declared.Ongoing.{Ongoing}
 use Rattle.transient.specs.Transient.{tableAt, ongoingEnd, ongoingAt, ongoingSound, interval}
-use Rattle.questions.specs.declared.View.{View}
-use Rattle.questions.specs.declared.Walk.{Walk}
+use Rattle.walk.specs.declared.View.{View}
+use Rattle.walk.specs.declared.Walk.{Walk}
 use Rattle.questions.specs.declared.Full.{Full}
-use Rattle.questions.specs.View.{Roomy}
-use Rattle.questions.specs.Rules.{kept}
-use Rattle.questions.specs.Walk.{rootOf, walkOf}
+use Rattle.walk.specs.View.{Roomy}
+use Rattle.walk.specs.Rules.{kept}
+use Rattle.walk.specs.Walk.{rootOf, walkOf}
 use Rattle.questions.specs.Found.{many, found, foundOf, shown}
 use Rattle.questions.specs.Single.{fromTable, tableEntry, toldEntry, entryFine}
 use Rattle.questions.specs.Full.{alone, fullEntry, everyQuark, fullEntries, refusedFull, walkedRefusal, walkedFull, walkedWritten}
 use Rattle.questions.specs.Table.{ongoing, begunFrom, allBegun, foundAll, entryFor, Readable, entriesFrom}
-use Rattle.questions.proofs.Room.{table-in}
-use Rattle.questions.proofs.Broken.{false-is, and-left, and-right}
+use Rattle.walk.proofs.Room.{table-in}
+use Rattle.walk.proofs.Broken.{false-is, and-left, and-right}
 use Rattle.questions.proofs.Finds.{Near, root-near, shown-some}
 use Rattle.questions.proofs.After.{found-after}
 use Rattle.questions.proofs.Tables.{found-all-at, length-from, begun-at}

@@ -8,16 +8,16 @@ use lib.Dec.{T, ltb}
 use lib.ListN.{length}
 use borrow.Author.Tests.{ltb-false, not-true, not-false}
 use Rattle.layout.specs.Layout.{entrySize}
-use Rattle.record.specs.declared.History.{History}
+use Rattle.record.specs.Record.{History}
 use Rattle.record.specs.declared.Refusal.{Refusal}
 use Rattle.record.specs.declared.Refusal.the-variants.{Short, Damaged, Outside}
 use Rattle.record.specs.Refusals.{accepted}
 use Rattle.record.specs.Sound.{sound, longEnough}
-use Rattle.questions.specs.declared.View.{View}
+use Rattle.walk.specs.declared.View.{View}
 use Rattle.questions.specs.declared.Full.{Full}
-use Rattle.questions.specs.View.{viewOf, longFor, asked}
+use Rattle.walk.specs.View.{viewOf, longFor, asked}
 use Rattle.questions.specs.Full.{refusedFull, walkedRefusal, walkedFull, walkedWritten, fullRefusal, fullOf, fullWritten}
-use Rattle.questions.proofs.Singles.{long-same}
+use Rattle.walk.proofs.Admitted.{long-same}
 
 or-left : (x y : Bool) → x || y ≡ false → x ≡ false
 or-left true y e = e

@@ -1,8 +1,3 @@
-pub mod Room
-pub mod Broken
-pub mod Entries
-pub mod Ways
-pub mod Walks
 pub mod Finds
 pub mod Singles
 pub mod After

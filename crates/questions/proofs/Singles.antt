@@ -1,31 +1,30 @@
 -- The single question: each way through its definitions. Assumes nothing.
-use Prim.Native.Nat.{ℕ, _-_, _*_, _/_, _≤_, _<_}
-use mathlib.Core.Path.{_≡_, refl, sym, ap, subst, _∙_}
-use mathlib.Core.Bool.{Bool, true, false, cond, not, _&&_, _||_}
+use Prim.Native.Nat.{ℕ, _-_, _≤_, _<_}
+use mathlib.Core.Path.{_≡_, refl, sym, ap, _∙_}
+use mathlib.Core.Bool.{Bool, true, false, cond, not}
 use mathlib.Core.List.{List}
 use native.Mathlib.Omega.{arith}
-use lib.Dec.{T, leb}
+use lib.Dec.{leb}
 use lib.ListN.{length}
-use borrow.Author.Tests.{le-leb, lt-leb, leb-true, not-true, not-false}
+use borrow.Author.Tests.{le-leb, lt-leb, not-true, not-false}
 use Rattle.layout.specs.declared.Entry.{Entry}
 use Rattle.layout.specs.declared.Quark.{Quark}
-use Rattle.layout.specs.Layout.{entrySize, nodeSize, readEntry}
-use Rattle.record.specs.declared.History.{History}
+use Rattle.layout.specs.Layout.{readEntry}
+use Rattle.record.specs.Record.{History}
 use Rattle.record.specs.declared.Refusal.the-variants.{Nothing, Short, Damaged, Outside, NoQuark}
 use Rattle.record.specs.Refusals.{accepted}
 use Rattle.record.specs.Sound.{sound, longEnough}
-use Rattle.record.proofs.Facts.{sound-shape, sound-numbers, sound-root}
 use Rattle.transient.specs.declared.Ongoing.{Ongoing}
 use Rattle.transient.specs.Transient.{ongoingEnd, ongoingAt, ongoingSound, interval}
-use Rattle.questions.specs.declared.View.{View}
-use Rattle.questions.specs.declared.Walk.{Walk}
+use Rattle.walk.specs.declared.View.{View}
+use Rattle.walk.specs.declared.Walk.{Walk}
 use Rattle.questions.specs.declared.Single.{Single}
-use Rattle.questions.specs.View.{viewOf, longFor, asked, Roomy}
-use Rattle.questions.specs.Rules.{kept}
-use Rattle.questions.specs.Walk.{walkOf}
+use Rattle.walk.specs.View.{viewOf, longFor, asked}
+use Rattle.walk.specs.Rules.{kept}
+use Rattle.walk.specs.Walk.{walkOf}
 use Rattle.questions.specs.Found.{foundOf, shown}
 use Rattle.questions.specs.Single.{refusedSingle, told, toldEntry, walkedSingle, fromTable, tableEntry, entryFine, singleAnswer, viewSingle, singleRefusal, singleOf}
-use Rattle.questions.proofs.Broken.{and-left, and-right}
+use Rattle.walk.proofs.Admitted.{long-same}
 
 -- ---- the walk and R7
 
@@ -88,47 +87,6 @@ module _ (v : View) (t q : ℕ) (l table : List ℕ) (r : Single) where
 
     pub view-walked : not b ≡ false → t < o .start → r ≡ walkedSingle v t q l → r ≡ viewSingle v t q l table
     view-walked n lt e = e ∙ walked-view v t q l table (is-fine ∙ not-false b n) (is-from ∙ lt-leb (o .start) t lt)
-
--- ---- what admission gives
-
-pub long-same : (h : History) (m n : ℕ) → longEnough h m n ≡ longFor (viewOf h) m n
-unfolding longEnough longFor viewOf
-long-same h m n = refl
-
-pub sound-top : (h : History) (b : Bool) → b ≡ sound h → not b ≡ false → h .top < 16
-sound-top h b is n = let f = sound-numbers h (sym is ∙ not-false b n) in omega arith
-
-pub record SoundView (v : View) : Type 0 where
-  pub places : v .shape .n ≤ 65536
-  pub size : nodeSize (v .shape) ≤ 65536
-  pub roomy : (l : List ℕ) → v .shape .n * nodeSize (v .shape) ≤ length l → Roomy v l
-
-pub sound-view : (h : History) (b : Bool) (v : View) → b ≡ sound h → not b ≡ false → v ≡ viewOf h → SoundView v
-unfolding viewOf
-sound-view h b v is n e = subst (λ (x : View). SoundView x) (sym e)
-    (let f = sym is ∙ not-false b n in
-    let s = sound-shape h f in
-    let m = sound-numbers h f in
-    record {
-      places = s .nodes;
-      size = s .size;
-      roomy = λ l r. record { shaped = s; attributes = m .attributes; used = m .room; level = m .top; root = sound-root h f; room = r };
-    })
-
-module _ (v : View) (m n : ℕ) (b : Bool) (is : b ≡ longFor v m n) (y : not b ≡ false) where
-  both : leb (v .shape .n * nodeSize (v .shape)) m && (v .finished || leb (v .attributes) (n / entrySize)) ≡ true
-  unfolding longFor
-  both = sym is ∙ not-false b y
-
-  pub long-nodes : v .shape .n * nodeSize (v .shape) ≤ m
-  long-nodes = leb-true _ _ (and-left _ _ both)
-
-  pub long-table : v .finished ≡ false → v .attributes ≤ n / entrySize
-  long-table going = leb-true _ _ (go (v .finished) going (and-right (leb (v .shape .n * nodeSize (v .shape)) m) _ both))
-    where
-      go : (f : Bool) → f ≡ false → f || leb (v .attributes) (n / entrySize) ≡ true → leb (v .attributes) (n / entrySize) ≡ true
-      go true e z = absurd (subst T e tt)
-      go false e z = z
 
 -- ---- the question
 

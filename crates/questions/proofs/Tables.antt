@@ -13,11 +13,11 @@ use Rattle.layout.specs.declared.Header.{Header}
 use Rattle.layout.specs.Layout.{entrySize, entryAt, readHeader, readEntry}
 use Rattle.transient.specs.declared.Ongoing.{Ongoing}
 use Rattle.transient.specs.Transient.{ongoingAt}
-use Rattle.questions.specs.declared.View.{View}
-use Rattle.questions.specs.declared.Walk.{Walk}
-use Rattle.questions.specs.declared.Rule.{Rule}
-use Rattle.questions.specs.Rules.{broken, kept, covers}
-use Rattle.questions.specs.Walk.{placeOf, rootOf, step}
+use Rattle.walk.specs.declared.View.{View}
+use Rattle.walk.specs.declared.Walk.{Walk}
+use Rattle.walk.specs.declared.Rule.{Rule}
+use Rattle.walk.specs.Rules.{broken, kept, covers}
+use Rattle.walk.specs.Walk.{placeOf, rootOf, step}
 use Rattle.questions.specs.Found.{more, noted, look, lookIn, lookAt, found}
 use Rattle.questions.specs.Table.{ongoing, begun, begunFrom, note, noteAll, noteIn, noteAt, foundFrom, foundAll}
 

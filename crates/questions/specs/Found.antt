@@ -6,10 +6,10 @@ use lib.Dec.{eqb}
 use Rattle.layout.specs.declared.Entry.{Entry}
 use Rattle.layout.specs.declared.Header.{Header}
 use Rattle.layout.specs.Layout.{entrySize, entryAt, readHeader, readEntry}
-use Rattle.questions.specs.declared.View.{View}
-use Rattle.questions.specs.declared.Walk.{Walk}
-use Rattle.questions.specs.Rules.{broken, kept, covers}
-use Rattle.questions.specs.Walk.{placeOf, step, rootOf}
+use Rattle.walk.specs.declared.View.{View}
+use Rattle.walk.specs.declared.Walk.{Walk}
+use Rattle.walk.specs.Rules.{broken, kept, covers}
+use Rattle.walk.specs.Walk.{placeOf, step, rootOf}
 
 -- What was found is one number: 0 for nothing, p + 1 for the one entry at byte p, and this for more than one. All nodes take at most 2^32 bytes, and
 -- an entry 32 of them, so that no p + 1 comes near it.

@@ -7,16 +7,16 @@ use lib.ListN.{length}
 use lib.Seq.{sets}
 use Rattle.layout.specs.declared.Entry.{Entry}
 use Rattle.layout.specs.Layout.{entrySize, entryBytes}
-use Rattle.record.specs.declared.History.{History}
+use Rattle.record.specs.Record.{History}
 use Rattle.record.specs.declared.Refusal.{Refusal}
 use Rattle.record.specs.declared.Refusal.the-variants.{Short, Damaged, Outside}
 use Rattle.record.specs.Refusals.{firstOf, accepted}
 use Rattle.record.specs.Sound.{sound, longEnough}
-use Rattle.questions.specs.declared.View.{View}
+use Rattle.walk.specs.declared.View.{View}
 use Rattle.questions.specs.declared.Full.{Full}
-use Rattle.questions.specs.View.{viewOf, asked}
-use Rattle.questions.specs.Rules.{kept}
-use Rattle.questions.specs.Walk.{walkOf}
+use Rattle.walk.specs.View.{viewOf, asked}
+use Rattle.walk.specs.Rules.{kept}
+use Rattle.walk.specs.Walk.{walkOf}
 use Rattle.questions.specs.Found.{foundOf, shown}
 use Rattle.questions.specs.Single.{fromTable, tableEntry, toldEntry, entryFine}
 

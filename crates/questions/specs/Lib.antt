@@ -1,6 +1,3 @@
-pub mod View
-pub mod Rules
-pub mod Walk
 pub mod Found
 pub mod Single
 pub mod Full

@@ -8,17 +8,17 @@ use lib.ListN.{length}
 use Rattle.layout.specs.declared.Entry.{Entry}
 use Rattle.layout.specs.declared.Quark.{Quark}
 use Rattle.layout.specs.Layout.{readEntry}
-use Rattle.record.specs.declared.History.{History}
+use Rattle.record.specs.Record.{History}
 use Rattle.record.specs.declared.Refusal.{Refusal}
 use Rattle.record.specs.declared.Refusal.the-variants.{Nothing, Short, Damaged, Outside, NoQuark}
 use Rattle.record.specs.Refusals.{firstOf, accepted}
 use Rattle.record.specs.Sound.{sound, longEnough}
 use Rattle.transient.specs.Transient.{ongoingEnd, ongoingAt, ongoingSound, interval}
-use Rattle.questions.specs.declared.View.{View}
+use Rattle.walk.specs.declared.View.{View}
 use Rattle.questions.specs.declared.Single.{Single}
-use Rattle.questions.specs.View.{viewOf, asked}
-use Rattle.questions.specs.Rules.{kept}
-use Rattle.questions.specs.Walk.{walkOf}
+use Rattle.walk.specs.View.{viewOf, asked}
+use Rattle.walk.specs.Rules.{kept}
+use Rattle.walk.specs.Walk.{walkOf}
 use Rattle.questions.specs.Found.{foundOf, shown}
 
 -- "A refusal returns its number with all other result numbers 0"

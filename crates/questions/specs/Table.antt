@@ -9,10 +9,10 @@ use Rattle.layout.specs.declared.Entry.{Entry}
 use Rattle.layout.specs.declared.Header.{Header}
 use Rattle.layout.specs.Layout.{entrySize, entryAt, entryBytes, readHeader, readEntry}
 use Rattle.transient.specs.Transient.{tableAt, ongoingAt}
-use Rattle.questions.specs.declared.View.{View}
-use Rattle.questions.specs.declared.Walk.{Walk}
-use Rattle.questions.specs.Rules.{broken, kept, covers}
-use Rattle.questions.specs.Walk.{placeOf, step, rootOf}
+use Rattle.walk.specs.declared.View.{View}
+use Rattle.walk.specs.declared.Walk.{Walk}
+use Rattle.walk.specs.Rules.{broken, kept, covers}
+use Rattle.walk.specs.Walk.{placeOf, step, rootOf}
 use Rattle.questions.specs.Found.{more}
 use Rattle.questions.specs.Single.{tableEntry}
 

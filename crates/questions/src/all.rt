@@ -1,26 +1,27 @@
 // The full question: all attributes' states at t, in one walk.
 use crate::Full;
-use crate::Rule;
-use crate::View;
-use crate::Walk;
-use crate::known;
 use crate::one;
-use crate::rules;
-use crate::steps;
 use layout::Entry;
 use layout::Header;
 use layout::Quark;
-use record::History;
+use layout::Shape;
 use record::Refusal;
+use walk::Rule;
+use walk::View;
+use walk::Walk;
+use walk::known;
+use walk::rules;
+use walk::steps;
 ghost use mathlib.Core.Path.{_≡_};
 ghost use mathlib.Core.Bool.{true, false};
 ghost use Prim.Native.Nat.{ℕ, _+_, _*_, _/_, _≤_, _<_};
 ghost use lib.ListN.{length, getD};
 ghost use lib.Seq.{sets};
 ghost use Rattle.layout.specs.Layout.{entrySize};
-ghost use Rattle.questions.specs.View.{Roomy};
-ghost use Rattle.questions.specs.Rules.{kept};
-ghost use Rattle.questions.specs.Walk.{allSound, step, walkOf};
+ghost use Rattle.record.specs.Record.{recordOf};
+ghost use Rattle.walk.specs.View.{Roomy};
+ghost use Rattle.walk.specs.Rules.{kept};
+ghost use Rattle.walk.specs.Walk.{allSound, step, walkOf};
 ghost use Rattle.questions.specs.Found.{shown};
 ghost use Rattle.questions.specs.Single.{entryFine};
 ghost use Rattle.questions.specs.Full.{everyQuark, refusedFull, walkedFull, walkedWritten, fullOf, fullWritten};
@@ -232,13 +233,20 @@ pub fn walked(v: View, t: u64, nodes: &[u8], table: &[u8], answer: &mut [u8], at
     walked_in(v, t, nodes, table, answer, at, &mut found)
 }
 
-pub fn full(h: History, t: u64, nodes: &[u8], table: &[u8], answer: &mut [u8]) -> Full
-    ensures { λ r. ⌜ (r ≡ fullOf h t (now (nodes .entry)) (now (table .entry)) (length (now (answer .entry)))) × (now (answer .exit) ≡ fullWritten h t (now (nodes .entry)) (now (table .entry)) (now (answer .entry))) ⌝ }
+pub fn full(
+    shape: Shape,
+    h: &[u64; 87],
+    t: u64,
+    nodes: &[u8],
+    table: &[u8],
+    answer: &mut [u8],
+) -> Full
+    ensures { λ r. ⌜ (r ≡ fullOf (recordOf shape (now (h .entry))) t (now (nodes .entry)) (now (table .entry)) (length (now (answer .entry)))) × (now (answer .exit) ≡ fullWritten (recordOf shape (now (h .entry))) t (now (nodes .entry)) (now (table .entry)) (now (answer .entry))) ⌝ }
 {
-    if !record::sound::sound(h) {
+    if !record::sound::sound(shape, h) {
         return refused(Refusal::Damaged);
     }
-    let v = known::view_of(h);
+    let v = known::view_of(shape, h);
     let long = known::long_for(v, nodes.len(), table.len());
     if !long | (answer.len() / layout::ENTRY < v.attributes as usize) {
         return refused(Refusal::Short);

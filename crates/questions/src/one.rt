@@ -1,24 +1,25 @@
 // The single question: one attribute's state at t.
-use crate::Rule;
 use crate::Single;
-use crate::View;
-use crate::Walk;
-use crate::known;
-use crate::rules;
-use crate::steps;
 use layout::Entry;
 use layout::Header;
 use layout::Quark;
-use record::History;
+use layout::Shape;
 use record::Refusal;
+use walk::Rule;
+use walk::View;
+use walk::Walk;
+use walk::known;
+use walk::rules;
+use walk::steps;
 ghost use mathlib.Core.Path.{_≡_};
 ghost use Prim.Native.Nat.{_+_, _*_, _/_, _≤_, _<_};
 ghost use mathlib.Core.Bool.{true, false};
 ghost use lib.ListN.{length};
 ghost use Rattle.layout.specs.Layout.{entrySize};
-ghost use Rattle.questions.specs.View.{Roomy};
-ghost use Rattle.questions.specs.Rules.{kept};
-ghost use Rattle.questions.specs.Walk.{allSound, step, walkOf};
+ghost use Rattle.record.specs.Record.{recordOf};
+ghost use Rattle.walk.specs.View.{Roomy};
+ghost use Rattle.walk.specs.Rules.{kept};
+ghost use Rattle.walk.specs.Walk.{allSound, step, walkOf};
 ghost use Rattle.questions.specs.Found.{more, look, lookAt, foundOf, shown};
 ghost use Rattle.questions.specs.Single.{refusedSingle, walkedSingle, viewSingle, singleOf};
 
@@ -213,13 +214,20 @@ fn admitted(v: View, t: u64, quark: Quark, nodes: &[u8], table: &[u8]) -> Single
     walked(v, t, quark, nodes)
 }
 
-pub fn single(h: History, t: u64, quark: Quark, nodes: &[u8], table: &[u8]) -> Single
-    ensures { λ r. ⌜ r ≡ singleOf h t quark (now (nodes .entry)) (now (table .entry)) ⌝ }
+pub fn single(
+    shape: Shape,
+    h: &[u64; 87],
+    t: u64,
+    quark: Quark,
+    nodes: &[u8],
+    table: &[u8],
+) -> Single
+    ensures { λ r. ⌜ r ≡ singleOf (recordOf shape (now (h .entry))) t quark (now (nodes .entry)) (now (table .entry)) ⌝ }
 {
-    if !record::sound::sound(h) {
+    if !record::sound::sound(shape, h) {
         return refused(Refusal::Damaged);
     }
-    let v = known::view_of(h);
+    let v = known::view_of(shape, h);
     if !known::long_for(v, nodes.len(), table.len()) {
         return refused(Refusal::Short);
     }

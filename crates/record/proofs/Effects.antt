@@ -1,22 +1,14 @@
 -- What each move does to the entries of each level: at the levels that it sets, and at any other. Assumes nothing.
 use Prim.Native.Nat.{ℕ, _+_, _<_}
-use mathlib.Core.Path.{_≡_, refl, ap, sym, _∙_}
+use mathlib.Core.Path.{_≡_, refl, ap, _∙_}
 use native.Mathlib.Omega.{arith}
-use mathlib.Core.List.{List, map}
-use lib.ListN.{length, length-set, length-map}
-use Rattle.layout.proofs.Seq.{the-field}
+use lib.ListN.{length-set}
 use lib.Seq.{getD-set-same, getD-set-other}
 use Rattle.layout.specs.declared.Seq.{Seq}
-use Rattle.record.specs.declared.Branch.{Branch}
-use Rattle.record.specs.declared.History.{History}
+use Rattle.record.specs.Record.{Branch, History}
 use Rattle.record.specs.Levels.{placeAt, startAt, intervalsAt, childrenAt, lastEndAt}
 use Rattle.record.specs.Moves.{levelNew, levelChild, levelStored, levelClosed, withBranch, closed, raised, made, stored}
 use Rattle.record.specs.Firm.{Long, LevelIs, SameLevel}
-
--- ---- sixteen levels, as a function's proof knows it of a record that it is handed: the four lists of numbers by `search needs`, the places by this
-
-pub places-long : (l : List Seq) → length (map (the-field .into) l) ≡ 16 → length l ≡ 16
-places-long l e = sym (length-map l (the-field .into)) ∙ e
 
 -- ---- a level's numbers
 

@@ -9,7 +9,7 @@ use lib.Dec.{leb, eqb}
 use borrow.Author.Tests.{leb-true, ltb-true, eqb-true, eqb-false, ne-eqb, not-true, not-false}
 use Rattle.layout.specs.declared.Shape.{Shape}
 use Rattle.layout.specs.Layout.{nodeSize, entrySize}
-use Rattle.record.specs.declared.History.{History}
+use Rattle.record.specs.Record.{History}
 use Rattle.record.specs.declared.Refusal.the-variants.{Nothing, Damaged, Short}
 use Rattle.record.specs.Levels.{placeAt, startAt, lastEndAt}
 use Rattle.record.specs.Sound.{shapeAllowed, numbersSound, all, levelSound, apart, levelsSound, startsFall, lastEndSound, branchSound, sound, longEnough, admitted}

@@ -10,7 +10,7 @@ use lib.ListN.{getD, set}
 use lib.Seq.{getD-set-other}
 use borrow.Author.Tests.{eqb-true, eqb-false}
 use Rattle.layout.specs.declared.Seq.{Seq}
-use Rattle.record.specs.declared.History.{History}
+use Rattle.record.specs.Record.{History}
 use Rattle.record.specs.Levels.{intervalsAt, childrenAt}
 use Rattle.record.specs.Moves.{levelNew, levelChild, levelStored, levelClosed, withBranch, withLargest, closed, raised, made, stored, stretched, atTime, withAttribute}
 use Rattle.record.specs.Sound.{lastTime}

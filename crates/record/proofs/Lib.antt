@@ -1,3 +1,5 @@
+pub mod Lies
+pub mod Moved
 pub mod Room
 pub mod Runs
 pub mod Ways

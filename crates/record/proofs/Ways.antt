@@ -1,59 +1,48 @@
 -- Each way through `branch_sound`, `sound` and `admit`, from the tests and calls that lead there. Assumes nothing.
-use Prim.Native.Nat.{ℕ, _+_, _≤_, _<_}
-use mathlib.Core.Path.{_≡_, refl}
+use Prim.Native.Nat.{ℕ, _+_, _*_, _/_, _≤_, _<_}
+use mathlib.Core.Path.{_≡_}
 use mathlib.Core.Bool.{Bool, true, false, not, _&&_, _||_}
+use mathlib.Core.List.{List}
 use lib.Dec.{leb, ltb, eqb}
-use borrow.Author.Tests.{le-leb, lt-leb, eq-eqb, ne-eqb, not-true, not-false}
+use lib.ListN.{getD}
+use native.Mathlib.Omega.{arith}
+use borrow.Author.Tests.{le-leb, le-ltb, lt-ltb, eq-eqb, ne-eqb, not-true, not-false}
 use Rattle.layout.specs.declared.Shape.{Shape}
-use Rattle.record.specs.declared.Branch.{Branch}
-use Rattle.record.specs.declared.History.{History}
+use Rattle.layout.specs.Layout.{nodeSize, entrySize}
+use Rattle.record.specs.Record.{History, branchOf, recordOf}
 use Rattle.record.specs.declared.Refusal.the-variants.{Nothing, Damaged, Short}
-use Rattle.record.specs.Levels.{placeAt, startAt, lastEndAt, counted, started}
-use Rattle.record.specs.Sound.{shapeAllowed, numbersSound, levelSound, apart, levelsSound, startsFall, lastEndSound, branchSound, sound, longEnough, admitted}
+use Rattle.record.specs.Sound.{shapeAllowed, numbersSound, levelsSound, startsFall, lastEndSound, branchSound, sound, longEnough, admitted}
+use Rattle.record.proofs.Lies.{place-lies, start-lies, last-end-lies}
 
--- what is lent of the branch says as much as the branch
-ends-of : (h : History) → lastEndSound (h .branch) (h .low) (h .start) (h .latest) ≡ eqb (h .low) 0 || (leb (h .start) (lastEndAt (h .branch) (h .low)) && leb (lastEndAt (h .branch) (h .low)) (h .latest))
-unfolding lastEndSound
-ends-of h = refl
-
-starts-of : (b : Branch) (low top : ℕ) → startsFall b low top ≡ startsFall (started (b .starts)) low top
-unfolding startsFall
-starts-of b low top = refl
-
-levels-of : (b : Branch) (s : Shape) (used low top : ℕ) → levelsSound b s used low top ≡ levelsSound (counted (b .places) (b .intervals) (b .children)) s used low top
-unfolding levelsSound levelSound apart
-levels-of b s used low top = refl
-
-module _ (h : History) where
-  pub branch-done : h .finished ≡ true → eqb (h .low) (h .top + 1) && ltb (placeAt (h .branch) (h .top)) (h .used) ≡ branchSound h
+module _ (s : Shape) (w : List ℕ) (small : getD w 86 0 < 16) where
+  pub branch-done : getD w 86 0 < getD w 85 0 → eqb (getD w 85 0) (getD w 86 0 + 1) && ltb (getD w (getD w 86 0) 0) (getD w 84 0) ≡ branchSound (recordOf s w)
   unfolding branchSound
-  branch-done e = simp e
+  branch-done lt = simp (lt-ltb _ _ lt, place-lies w (getD w 86 0) small)
 
-  module _ (going : h .finished ≡ false) where
-    pub branch-none : h .top < h .low → false ≡ branchSound h
+  module _ (some : getD w 85 0 ≤ getD w 86 0) where
+    pub branch-root : (getD w (16 + getD w 86 0) 0 ≡ getD w 80 0 → ⊥) → false ≡ branchSound (recordOf s w)
     unfolding branchSound
-    branch-none lt = simp (going, lt-leb _ _ lt)
+    branch-root ne = simp (le-ltb _ _ some, le-leb _ _ some, start-lies w (getD w 86 0) small, ne-eqb _ _ ne)
 
-    module _ (some : h .low ≤ h .top) where
-      pub branch-root : (startAt (h .branch) (h .top) ≡ h .start → ⊥) → false ≡ branchSound h
+    module _ (root : getD w (16 + getD w 86 0) 0 ≡ getD w 80 0) (x : Bool) (last : x ≡ eqb (getD w 85 0) 0 || (leb (getD w 80 0) (getD w (64 + getD w 85 0) 0) && leb (getD w (64 + getD w 85 0) 0) (getD w 81 0))) where
+      ends-of : lastEndSound (branchOf w) (getD w 85 0) (getD w 80 0) (getD w 81 0) ≡ x
+      unfolding lastEndSound
+      ends-of = simp (last-end-lies w (getD w 85 0) (omega arith), last)
+
+      pub branch-last : not x ≡ true → false ≡ branchSound (recordOf s w)
       unfolding branchSound
-      branch-root ne = simp (going, le-leb _ _ some, ne-eqb _ _ ne)
+      branch-last n = simp (le-ltb _ _ some, le-leb _ _ some, start-lies w (getD w 86 0) small, eq-eqb _ _ root, ends-of, not-true x n)
 
-      module _ (root : startAt (h .branch) (h .top) ≡ h .start) (x : Bool) (last : x ≡ eqb (h .low) 0 || (leb (h .start) (lastEndAt (h .branch) (h .low)) && leb (lastEndAt (h .branch) (h .low)) (h .latest))) where
-        pub branch-last : not x ≡ true → false ≡ branchSound h
+      module _ (ends : not x ≡ false) (y : Bool) (starts : y ≡ startsFall (branchOf w) (getD w 85 0) (getD w 86 0)) where
+        pub branch-starts : not y ≡ true → false ≡ branchSound (recordOf s w)
         unfolding branchSound
-        branch-last n = simp (going, le-leb _ _ some, eq-eqb _ _ root, ends-of h, ← last, not-true x n)
+        branch-starts n = simp (le-ltb _ _ some, le-leb _ _ some, start-lies w (getD w 86 0) small, eq-eqb _ _ root, ends-of, not-false x ends, ← starts, not-true y n)
 
-        module _ (ends : not x ≡ false) (y : Bool) (starts : y ≡ startsFall (started (h .branch .starts)) (h .low) (h .top)) where
-          pub branch-starts : not y ≡ true → false ≡ branchSound h
-          unfolding branchSound
-          branch-starts n = simp (going, le-leb _ _ some, eq-eqb _ _ root, ends-of h, ← last, not-false x ends, starts-of (h .branch) (h .low) (h .top), ← starts, not-true y n)
+        pub branch-levels : not y ≡ false → (z : Bool) → z ≡ levelsSound (branchOf w) s (getD w 84 0) (getD w 85 0) (getD w 86 0) → z ≡ branchSound (recordOf s w)
+        unfolding branchSound
+        branch-levels n z levels = simp (le-ltb _ _ some, le-leb _ _ some, start-lies w (getD w 86 0) small, eq-eqb _ _ root, ends-of, not-false x ends, ← starts, not-false y n, ← levels)
 
-          pub branch-levels : not y ≡ false → (z : Bool) → z ≡ levelsSound (counted (h .branch .places) (h .branch .intervals) (h .branch .children)) (h .shape) (h .used) (h .low) (h .top) → z ≡ branchSound h
-          unfolding branchSound
-          branch-levels n z levels = simp (going, le-leb _ _ some, eq-eqb _ _ root, ends-of h, ← last, not-false x ends, starts-of (h .branch) (h .low) (h .top), ← starts, not-false y n, levels-of (h .branch) (h .shape) (h .used) (h .low) (h .top), ← levels)
-
-pub ruleset branch-ways = (branch-done, branch-none, branch-root, branch-last, branch-starts, branch-levels)
+pub ruleset branch-ways = (branch-done, branch-root, branch-last, branch-starts, branch-levels)
 
 module _ (h : History) (x : Bool) (shape : x ≡ shapeAllowed (h .shape)) where
   pub shape-fails : not x ≡ true → false ≡ sound h
@@ -76,13 +65,17 @@ module _ (h : History) (nodes table : ℕ) (x : Bool) (is : x ≡ sound h) where
   unfolding admitted
   damaged n = simp (← is, not-true x n)
 
-  module _ (m : not x ≡ false) (y : Bool) (long : y ≡ longEnough h nodes table) where
+  module _ (m : not x ≡ false) (f : Bool) (done : f ≡ h .finished) (y : Bool) (long : y ≡ leb (h .shape .n * nodeSize (h .shape)) nodes && (f || leb (h .attributes) (table / entrySize))) where
+    long-of : longEnough h nodes table ≡ y
+    unfolding longEnough
+    long-of = simp (long, done)
+
     pub short : not y ≡ true → Short ≡ admitted h nodes table
     unfolding admitted
-    short n = simp (← is, not-false x m, ← long, not-true y n)
+    short n = simp (← is, not-false x m, long-of, not-true y n)
 
     pub fine : not y ≡ false → Nothing ≡ admitted h nodes table
     unfolding admitted
-    fine n = simp (← is, not-false x m, ← long, not-false y n)
+    fine n = simp (← is, not-false x m, long-of, not-false y n)
 
 pub ruleset admit-ways = (damaged, short, fine)

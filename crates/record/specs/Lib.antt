@@ -1,4 +1,5 @@
 pub mod Refusals
+pub mod Record
 pub mod Levels
 pub mod Sound
 pub mod Moves

@@ -1,9 +1,9 @@
 -- The only ways in which a record changes. A field that is added later changes the setters below and nothing else.
 use Prim.Native.Nat.{ℕ, _+_, max}
 use mathlib.Core.Bool.{true}
-use lib.ListN.{set}
-use Rattle.record.specs.declared.Branch.{Branch}
-use Rattle.record.specs.declared.History.{History}
+use mathlib.Core.List.{List}
+use lib.ListN.{getD, set}
+use Rattle.record.specs.Record.{Branch, History}
 use Rattle.record.specs.Levels.{intervalsAt, childrenAt}
 
 -- ═══ A level's numbers: the only four ways in which they change ═══
@@ -143,3 +143,11 @@ stored h l = withBranch h (h .used) (h .low) (h .top) (levelStored (h .branch) l
 -- "S is the largest end stored so far"
 unfoldable pub stretched : History → ℕ → History
 stretched h e = withLargest h (max (h .«largest_end») e)
+
+-- ═══ A level's numbers in the array that the record lies in ═══
+
+unfoldable pub levelSet : List ℕ → ℕ → ℕ → ℕ → ℕ → ℕ → List ℕ
+levelSet w l place start children lastEnd = set (set (set (set (set w l place) (16 + l) start) (32 + l) 0) (48 + l) children) (64 + l) lastEnd
+
+unfoldable pub childSet : List ℕ → ℕ → List ℕ
+childSet w l = set w (48 + l) (getD w (48 + l) 0 + 1)

@@ -5,8 +5,7 @@ use mathlib.Core.List.{[], _∷_}
 use lib.Dec.{leb, ltb, eqb}
 use Rattle.layout.specs.declared.Shape.{Shape}
 use Rattle.layout.specs.Layout.{nodeSize, entrySize}
-use Rattle.record.specs.declared.Branch.{Branch}
-use Rattle.record.specs.declared.History.{History}
+use Rattle.record.specs.Record.{Branch, History}
 use Rattle.record.specs.declared.Refusal.{Refusal}
 use Rattle.record.specs.declared.Refusal.the-variants.{Damaged, Short}
 use Rattle.record.specs.Refusals.{firstOf}

@@ -1,34 +1,35 @@
-// The record of a history: its shape, its numbers and its open branch, by value; and what a call says.
+// The record of a history: its numbers and its open branch; and what a call says.
 pub mod sound; // sound.rt: when a record is sound, and buffers long enough for it
 pub mod moves; // moves.rt: the only ways in which a record changes
 
-use layout::Seq;
-use layout::Shape;
 ghost use mathlib.Core.Path.{_≡_};
 ghost use Rattle.record.specs.Refusals.{numberOf};
 
-// "The open branch is kept in the record by value, one entry for each of the sixteen levels."
-pub struct Branch {
-    pub places: [Seq; 16],
-    pub starts: [u64; 16],
-    pub intervals: [u16; 16],
-    pub children: [u16; 16],
-    pub last_ends: [u64; 16],
-}
+// The record is an array of 87 numbers beside the history's shape. Whoever keeps a history holds both by value; a call is lent the array and
+// changes it in place. First the open branch, "one entry for each of the sixteen levels": the sixteen places, and from these indices on
+// the sixteen starts, interval counts, child counts and last-child ends.
+pub const STARTS: usize = 16;
 
-// The levels low..=top are open and top is the root's, finished or not; once finished, low is top + 1.
-pub struct History {
-    pub shape: Shape,
-    pub start: u64,
-    pub latest: u64,
-    pub largest_end: u64,
-    pub attributes: u32,
-    pub used: u32,
-    pub low: u32,
-    pub top: u32,
-    pub finished: bool,
-    pub branch: Branch,
-}
+pub const INTERVALS: usize = 32;
+
+pub const CHILDREN: usize = 48;
+
+pub const LAST_ENDS: usize = 64;
+
+// Then the history's own numbers. The levels from low to top are open and top is the root's; once finished low is top + 1, and none is open.
+pub const START: usize = 80;
+
+pub const LATEST: usize = 81;
+
+pub const LARGEST_END: usize = 82;
+
+pub const ATTRIBUTES: usize = 83;
+
+pub const USED: usize = 84;
+
+pub const LOW: usize = 85;
+
+pub const TOP: usize = 86;
 
 // "What a call says": a name for each number of document 01's table.
 pub enum Refusal {

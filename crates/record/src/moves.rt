@@ -1,156 +1,123 @@
-// The only ways in which a record changes. Each copies and sets fields, so that a new field costs this file.
-use crate::Branch;
-use crate::History;
-use layout::Seq;
+// The only ways in which a record changes. Each sets entries, so that a new number costs this file.
+use crate::ATTRIBUTES;
+use crate::CHILDREN;
+use crate::INTERVALS;
+use crate::LARGEST_END;
+use crate::LAST_ENDS;
+use crate::LATEST;
+use crate::LOW;
+use crate::START;
+use crate::STARTS;
+use crate::TOP;
+use crate::USED;
 ghost use mathlib.Core.Path.{_≡_};
-ghost use Prim.Native.Nat.{_+_, _<_};
+ghost use Prim.Native.Nat.{_+_, _≤_, _<_};
+ghost use lib.ListN.{getD, length};
+ghost use Rattle.record.specs.Record.{branchOf, Becomes};
 ghost use Rattle.record.specs.Levels.{intervalsAt, childrenAt};
-ghost use Rattle.record.specs.Moves.{levelNew, levelChild, levelStored, levelClosed, closed, raised, made, stored, stretched, atTime, withAttribute, finishedAt};
+ghost use Rattle.record.specs.Moves.{levelSet, childSet, closed, raised, made, stored, stretched, atTime, withAttribute, finishedAt};
 
 // ---- a level's numbers
 
 // A new node's level: its place, its start and what its header says.
-fn level_new(b: Branch, level: u32, place: u32, start: u64, children: u16, last_end: u64) -> Branch
+fn level_new(h: &mut [u64; 87], level: u64, place: u64, start: u64, children: u64, last_end: u64)
     requires { ⌜ level < 16 ⌝ }
-    ensures { λ r. ⌜ r ≡ levelNew b level place start children «last_end» ⌝ }
+    ensures { λ _. ⌜ now (h .exit) ≡ levelSet (now (h .entry)) level place start children «last_end» ⌝ }
 {
     let i = level as usize;
-    let mut g = b;
-    g.places[i] = Seq(place);
-    g.starts[i] = start;
-    g.intervals[i] = 0;
-    g.children[i] = children;
-    g.last_ends[i] = last_end;
-    g
+    h[i] = place;
+    h[STARTS + i] = start;
+    h[INTERVALS + i] = 0;
+    h[CHILDREN + i] = children;
+    h[LAST_ENDS + i] = last_end;
 }
 
-fn level_child(b: Branch, level: u32) -> Branch
-    requires { ⌜ (level < 16) × (childrenAt b level < 65535) ⌝ }
-    ensures { λ r. ⌜ r ≡ levelChild b level ⌝ }
+fn level_child(h: &mut [u64; 87], level: u64)
+    requires { ⌜ (level < 16) × (getD (now h) (48 + level) 0 < 65535) ⌝ }
+    ensures { λ _. ⌜ now (h .exit) ≡ childSet (now (h .entry)) level ⌝ }
 {
-    let i = level as usize;
-    let more = b.children[i] + 1;
-    let mut g = b;
-    g.children[i] = more;
-    g
+    let i = CHILDREN + level as usize;
+    h[i] = h[i] + 1;
 }
 
-fn level_stored(b: Branch, level: u32) -> Branch
-    requires { ⌜ (level < 16) × (intervalsAt b level < 65535) ⌝ }
-    ensures { λ r. ⌜ r ≡ levelStored b level ⌝ }
+// A level takes an interval.
+pub fn stored(h: &mut [u64; 87], level: u64)
+    requires { ⌜ (length (now h) ≡ 87) × (level < 16) × (intervalsAt (branchOf (now h)) level < 65535) ⌝ }
+    ensures { λ _. ⌜ Becomes (now (h .entry)) (now (h .exit)) (λ g. stored g level) ⌝ }
 {
-    let i = level as usize;
-    let more = b.intervals[i] + 1;
-    let mut g = b;
-    g.intervals[i] = more;
-    g
-}
-
-// The level's last child has closed with this end.
-fn level_closed(b: Branch, level: u32, end: u64) -> Branch
-    requires { ⌜ level < 16 ⌝ }
-    ensures { λ r. ⌜ r ≡ levelClosed b level end ⌝ }
-{
-    let i = level as usize;
-    let mut g = b;
-    g.last_ends[i] = end;
-    g
+    let i = INTERVALS + level as usize;
+    h[i] = h[i] + 1;
 }
 
 // ---- the record
 
 // "Closing gives the node .. the end S": the lowest level, under an open one.
-pub fn closed(h: History) -> History
-    requires { ⌜ h .low < 15 ⌝ }
-    ensures { λ r. ⌜ r ≡ closed h ⌝ }
+pub fn closed(h: &mut [u64; 87])
+    requires { ⌜ (length (now h) ≡ 87) × (getD (now h) 85 0 < getD (now h) 86 0) × (getD (now h) 86 0 < 16) ⌝ }
+    ensures { λ _. ⌜ Becomes (now (h .entry)) (now (h .exit)) closed ⌝ }
 {
-    let up = h.low + 1;
-    let b = level_closed(h.branch, up, h.largest_end);
-    let mut g = h;
-    g.low = up;
-    g.branch = b;
-    g
+    let up = h[LOW] + 1;
+    h[LAST_ENDS + up as usize] = h[LARGEST_END];
+    h[LOW] = up;
 }
 
 // "a new root is made first: one level higher, starting at the history's start, with the old root as its only child"
-pub fn raised(h: History) -> History
-    requires { ⌜ (h .top < 15) × (h .used < 4294967295) ⌝ }
-    ensures { λ r. ⌜ r ≡ raised h ⌝ }
+pub fn raised(h: &mut [u64; 87])
+    requires { ⌜ (length (now h) ≡ 87) × (getD (now h) 85 0 ≤ getD (now h) 86 0) × (getD (now h) 86 0 < 15) × (getD (now h) 84 0 < 4294967295) ⌝ }
+    ensures { λ _. ⌜ Becomes (now (h .entry)) (now (h .exit)) raised ⌝ }
 {
-    let up = h.top + 1;
-    let b = level_new(h.branch, up, h.used, h.start, 1, h.largest_end);
-    let mut g = h;
-    g.used = h.used + 1;
-    g.low = up;
-    g.top = up;
-    g.branch = b;
-    g
+    let up = h[TOP] + 1;
+    let used = h[USED];
+    let start = h[START];
+    let end = h[LARGEST_END];
+    level_new(h, up, used, start, 1, end);
+    h[USED] = used + 1;
+    h[LOW] = up;
+    h[TOP] = up;
 }
 
 // A node of a chain: the lowest level, one above, gets a new child that starts at start.
-pub fn made(h: History, start: u64, level: u32) -> History
-    requires { ⌜ (level < 15) × (h .used < 4294967295) × (childrenAt (h .branch) (level + 1) < 65535) ⌝ }
-    ensures { λ r. ⌜ r ≡ made h start level ⌝ }
+pub fn made(h: &mut [u64; 87], start: u64, level: u64)
+    requires { ⌜ (length (now h) ≡ 87) × (level < getD (now h) 85 0) × (getD (now h) 85 0 ≤ getD (now h) 86 0) × (getD (now h) 86 0 < 16) × (getD (now h) 84 0 < 4294967295) × (childrenAt (branchOf (now h)) (level + 1) < 65535) ⌝ }
+    ensures { λ _. ⌜ Becomes (now (h .entry)) (now (h .exit)) (λ g. made g start level) ⌝ }
 {
-    let p = level_child(h.branch, level + 1);
-    let b = level_new(p, level, h.used, start, 0, 0);
-    let mut g = h;
-    g.used = h.used + 1;
-    g.low = level;
-    g.branch = b;
-    g
-}
-
-// A level takes an interval.
-pub fn stored(h: History, level: u32) -> History
-    requires { ⌜ (level < 16) × (intervalsAt (h .branch) level < 65535) ⌝ }
-    ensures { λ r. ⌜ r ≡ stored h level ⌝ }
-{
-    let b = level_stored(h.branch, level);
-    let mut g = h;
-    g.branch = b;
-    g
+    level_child(h, level + 1);
+    let used = h[USED];
+    level_new(h, level, used, start, 0, 0);
+    h[USED] = used + 1;
+    h[LOW] = level;
 }
 
 // "S is the largest end stored so far"
-pub fn stretched(h: History, end: u64) -> History
-    ensures { λ r. ⌜ r ≡ stretched h end ⌝ }
+pub fn stretched(h: &mut [u64; 87], end: u64)
+    requires { ⌜ length (now h) ≡ 87 ⌝ }
+    ensures { λ _. ⌜ Becomes (now (h .entry)) (now (h .exit)) (λ g. stretched g end) ⌝ }
 {
-    let mut g = h;
-    if h.largest_end < end {
-        g.largest_end = end;
+    if h[LARGEST_END] < end {
+        h[LARGEST_END] = end;
     }
-    g
 }
 
 // "a change at time t makes it t"
-pub fn at_time(h: History, t: u64) -> History
-    ensures { λ r. ⌜ r ≡ atTime h t ⌝ }
+pub fn at_time(h: &mut [u64; 87], t: u64)
+    requires { ⌜ length (now h) ≡ 87 ⌝ }
+    ensures { λ _. ⌜ Becomes (now (h .entry)) (now (h .exit)) (λ g. atTime g t) ⌝ }
 {
-    let mut g = h;
-    g.latest = t;
-    g
+    h[LATEST] = t;
 }
 
-pub fn with_attribute(h: History) -> History
-    requires { ⌜ h .attributes < 4294967295 ⌝ }
-    ensures { λ r. ⌜ r ≡ withAttribute h ⌝ }
+pub fn with_attribute(h: &mut [u64; 87])
+    requires { ⌜ (length (now h) ≡ 87) × (getD (now h) 83 0 < 4294967295) ⌝ }
+    ensures { λ _. ⌜ Becomes (now (h .entry)) (now (h .exit)) withAttribute ⌝ }
 {
-    let more = h.attributes + 1;
-    let mut g = h;
-    g.attributes = more;
-    g
+    h[ATTRIBUTES] = h[ATTRIBUTES] + 1;
 }
 
 // "closes all open nodes with end T. T becomes the latest time"
-pub fn finished(h: History, t: u64) -> History
-    requires { ⌜ h .top < 4294967295 ⌝ }
-    ensures { λ r. ⌜ r ≡ finishedAt h t ⌝ }
+pub fn finished(h: &mut [u64; 87], t: u64)
+    requires { ⌜ (length (now h) ≡ 87) × (getD (now h) 86 0 < 16) ⌝ }
+    ensures { λ _. ⌜ Becomes (now (h .entry)) (now (h .exit)) (λ g. finishedAt g t) ⌝ }
 {
-    let over = h.top + 1;
-    let mut g = h;
-    g.latest = t;
-    g.low = over;
-    g.finished = true;
-    g
+    h[LATEST] = t;
+    h[LOW] = h[TOP] + 1;
 }

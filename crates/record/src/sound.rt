@@ -1,16 +1,25 @@
 // When a record is sound, clause by clause as document 01 lists them, and when lent buffers are long enough for it.
-use crate::History;
+use crate::ATTRIBUTES;
+use crate::CHILDREN;
+use crate::INTERVALS;
+use crate::LARGEST_END;
+use crate::LAST_ENDS;
+use crate::LATEST;
+use crate::LOW;
 use crate::Refusal;
-use layout::Seq;
+use crate::START;
+use crate::STARTS;
+use crate::TOP;
+use crate::USED;
 use layout::Shape;
 ghost use mathlib.Core.Path.{_≡_};
 ghost use mathlib.Core.Bool.{_&&_, _||_};
-ghost use mathlib.Core.List.{[]};
 ghost use lib.Dec.{leb, eqb};
-ghost use Prim.Native.Nat.{_+_, _-_, _*_, _≤_, _<_};
-ghost use Rattle.layout.specs.Layout.{nodeSize};
-ghost use Rattle.record.specs.Sound.{shapeAllowed, numbersSound, levelSound, apart, levelsSound, startsFall, branchSound, sound, longEnough, admitted};
-ghost use Rattle.record.specs.Levels.{counted, started};
+ghost use lib.ListN.{getD, length};
+ghost use Prim.Native.Nat.{_+_, _-_, _*_, _/_, _≤_, _<_};
+ghost use Rattle.layout.specs.Layout.{nodeSize, entrySize};
+ghost use Rattle.record.specs.Record.{branchOf, finishedIn, recordOf};
+ghost use Rattle.record.specs.Sound.{shapeAllowed, numbersSound, levelSound, apart, levelsSound, startsFall, branchSound, sound, admitted};
 ghost use Rattle.record.specs.Firm.{Shaped};
 
 // "Start and event times 0 to 2^63-1."
@@ -25,82 +34,58 @@ pub fn shape_allowed(s: Shape) -> bool
 }
 
 // "its shape is allowed, numbers are within limits, the used count 1 to N, start is at or below latest, S lies in that span"
-fn numbers_sound(h: History) -> bool
-    ensures { λ r. ⌜ r ≡ numbersSound h ⌝ }
+fn numbers_sound(s: Shape, h: &[u64; 87]) -> bool
+    ensures { λ r. ⌜ r ≡ numbersSound (recordOf s (now (h .entry))) ⌝ }
 {
-    (h.attributes <= 4096)
-        & (h.latest <= LAST_TIME)
-        & (h.start <= h.latest)
-        & (h.start <= h.largest_end)
-        & (h.largest_end <= h.latest)
-        & (h.top <= 15)
-        & (1 <= h.used)
-        & (h.used <= h.shape.n)
-}
-
-fn within(count: u16, limit: u32) -> bool
-    ensures { λ r. ⌜ r ≡ leb count limit ⌝ }
-{
-    (count as u32) <= limit
+    (h[ATTRIBUTES] <= 4096)
+        & (h[LATEST] <= LAST_TIME)
+        & (h[START] <= h[LATEST])
+        & (h[START] <= h[LARGEST_END])
+        & (h[LARGEST_END] <= h[LATEST])
+        & (h[TOP] <= 15)
+        & (1 <= h[USED])
+        & (h[USED] <= s.n as u64)
 }
 
 // "open counts within K and C, places below the used count, every open level above 0 has a child"
-// The arrays are lent, not copied: every call and question begins with this test.
-fn level_sound<'a>(
-    places: [Seq; 16],
-    intervals: &'a [u16; 16],
-    children: &'a [u16; 16],
-    s: Shape,
-    used: u32,
-    level: u32,
-) -> bool
+fn level_sound(h: &[u64; 87], s: Shape, level: u64) -> bool
     requires { ⌜ level < 16 ⌝ }
-    ensures { λ r. ⌜ r ≡ levelSound (counted places (now (intervals .entry)) (now (children .entry))) s used level ⌝ }
+    ensures { λ r. ⌜ r ≡ levelSound (branchOf (now (h .entry))) s (getD (now (h .entry)) 84 0) level ⌝ }
 {
     let i = level as usize;
-    within(intervals[i], s.k)
-        & within(children[i], s.c)
-        & (places[i].0 < used)
-        & ((level == 0) | (1 <= children[i]))
+    (h[INTERVALS + i] <= s.k as u64)
+        & (h[CHILDREN + i] <= s.c as u64)
+        & (h[i] < h[USED])
+        & ((level == 0) | (1 <= h[CHILDREN + i]))
 }
 
-// "places differ": that of a level from those of the n levels above it
-fn apart(places: [Seq; 16], level: u32, n: u32) -> bool
-    requires { ⌜ level + n < 16 ⌝ }
-    ensures { λ r. ⌜ r ≡ apart (counted places [] []) level n ⌝ }
+// "places differ": that of a level from those of the levels above it, up to top
+fn apart(h: &[u64; 87], level: u64, top: u64) -> bool
+    requires { ⌜ (level ≤ top) × (top < 16) ⌝ }
+    ensures { λ r. ⌜ r ≡ apart (branchOf (now (h .entry))) level (top - level) ⌝ }
 {
-    let i = level as usize;
-    let place = places[i].0;
-    let mut j: u32 = 0;
-    while j < n {
-        let k = (level + 1 + j) as usize;
-        if places[k].0 == place {
+    let place = h[level as usize];
+    let mut above = level + 1;
+    while above <= top {
+        if h[above as usize] == place {
             return false;
         }
-        j += 1;
+        above += 1;
     }
     true
 }
 
-// the n open levels from level on
-fn levels_sound<'a>(
-    places: [Seq; 16],
-    intervals: &'a [u16; 16],
-    children: &'a [u16; 16],
-    s: Shape,
-    used: u32,
-    low: u32,
-    top: u32,
-) -> bool
+// the open levels
+fn levels_sound(h: &[u64; 87], s: Shape, low: u64, top: u64) -> bool
     requires { ⌜ (low ≤ top) × (top < 16) ⌝ }
-    ensures { λ r. ⌜ r ≡ levelsSound (counted places (now (intervals .entry)) (now (children .entry))) s used low top ⌝ }
+    ensures { λ r. ⌜ r ≡ levelsSound (branchOf (now (h .entry))) s (getD (now (h .entry)) 84 0) low top ⌝ }
 {
     let mut level = low;
     while level <= top {
-        if !level_sound(places, intervals, children, s, used, level) {
+        if !level_sound(h, s, level) {
             return false;
         }
-        if !apart(places, level, top - level) {
+        if !apart(h, level, top) {
             return false;
         }
         level += 1;
@@ -109,14 +94,14 @@ fn levels_sound<'a>(
 }
 
 // "starts not growing upwards": from level low up to top
-fn starts_fall(starts: &[u64; 16], low: u32, top: u32) -> bool
+fn starts_fall(h: &[u64; 87], low: u64, top: u64) -> bool
     requires { ⌜ (low ≤ top) × (top < 16) ⌝ }
-    ensures { λ r. ⌜ r ≡ startsFall (started (now (starts .entry))) low top ⌝ }
+    ensures { λ r. ⌜ r ≡ startsFall (branchOf (now (h .entry))) low top ⌝ }
 {
     let mut level = low;
     while level < top {
-        let i = level as usize;
-        if starts[i] < starts[i + 1] {
+        let i = STARTS + level as usize;
+        if h[i] < h[i + 1] {
             return false;
         }
         level += 1;
@@ -125,67 +110,61 @@ fn starts_fall(starts: &[u64; 16], low: u32, top: u32) -> bool
 }
 
 // "the last-child end of an open level without open child lies in that span": only the lowest open level has no open child
-fn last_end_sound(end: u64, low: u32, start: u64, latest: u64) -> bool
+fn last_end_sound(end: u64, low: u64, start: u64, latest: u64) -> bool
     ensures { λ r. ⌜ r ≡ eqb low 0 || (leb start end && leb end latest) ⌝ }
 {
     (low == 0) | ((start <= end) & (end <= latest))
 }
 
 // "open levels run unbroken up to the root (none once finished) with starts not growing upwards and the root's equal to the history's"
-fn branch_sound(h: History) -> bool
-    requires { ⌜ h .top < 16 ⌝ }
-    ensures { λ r. ⌜ r ≡ branchSound h ⌝ }
+fn branch_sound(s: Shape, h: &[u64; 87]) -> bool
+    requires { ⌜ getD (now h) 86 0 < 16 ⌝ }
+    ensures { λ r. ⌜ r ≡ branchSound (recordOf s (now (h .entry))) ⌝ }
 {
-    let b = h.branch;
-    let places = b.places;
-    let top = h.top as usize;
-    if h.finished {
-        return (h.low == h.top + 1) & (places[top].0 < h.used);
+    let top = h[TOP];
+    let low = h[LOW];
+    if top < low {
+        return (low == top + 1) & (h[top as usize] < h[USED]);
     }
-    if h.top < h.low {
+    if h[STARTS + top as usize] != h[START] {
         return false;
     }
-    if b.starts[top] != h.start {
+    if !last_end_sound(h[LAST_ENDS + low as usize], low, h[START], h[LATEST]) {
         return false;
     }
-    let low = h.low as usize;
-    if !last_end_sound(b.last_ends[low], h.low, h.start, h.latest) {
+    if !starts_fall(h, low, top) {
         return false;
     }
-    if !starts_fall(&b.starts, h.low, h.top) {
-        return false;
-    }
-    levels_sound(
-        places,
-        &b.intervals,
-        &b.children,
-        h.shape,
-        h.used,
-        h.low,
-        h.top,
-    )
+    levels_sound(h, s, low, top)
 }
 
-pub fn sound(h: History) -> bool
-    ensures { λ r. ⌜ r ≡ sound h ⌝ }
+pub fn sound(s: Shape, h: &[u64; 87]) -> bool
+    ensures { λ r. ⌜ r ≡ sound (recordOf s (now (h .entry))) ⌝ }
 {
-    if !shape_allowed(h.shape) {
+    if !shape_allowed(s) {
         return false;
     }
-    if !numbers_sound(h) {
+    if !numbers_sound(s, h) {
         return false;
     }
-    branch_sound(h)
+    branch_sound(s, h)
+}
+
+// "none once finished"
+pub fn finished(h: &[u64; 87]) -> bool
+    ensures { λ r. ⌜ r ≡ finishedIn (now (h .entry)) ⌝ }
+{
+    h[TOP] < h[LOW]
 }
 
 // "nodes under N times size, table under the attribute count (not once finished)"
-pub fn long_enough(h: History, nodes: usize, table: usize) -> bool
-    requires { ⌜ (h .shape .n ≤ 65536) × (nodeSize (h .shape) ≤ 65536) ⌝ }
-    ensures { λ r. ⌜ r ≡ longEnough h nodes table ⌝ }
+pub fn long_enough(s: Shape, attributes: u64, finished: bool, nodes: usize, table: usize) -> bool
+    requires { ⌜ (s .n ≤ 65536) × (nodeSize s ≤ 65536) ⌝ }
+    ensures { λ r. ⌜ r ≡ leb (s .n * nodeSize s) nodes && (finished || leb attributes (table / entrySize)) ⌝ }
 {
-    let size = layout::node_size(h.shape);
+    let size = layout::node_size(s);
     let entries = table / layout::ENTRY;
-    ((h.shape.n as usize) * size <= nodes) & (h.finished | (h.attributes as usize <= entries))
+    ((s.n as usize) * size <= nodes) & (finished | (attributes <= entries as u64))
 }
 
 // Where the node at a place stands: "Node i stands at i times the node size."
@@ -197,14 +176,28 @@ pub fn stands_at(place: u32, s: Shape) -> usize
     place as usize * size
 }
 
-// "3 record, 2": the head of every call and question.
-pub fn admit(h: History, nodes: usize, table: usize) -> Refusal
-    ensures { λ r. ⌜ r ≡ admitted h nodes table ⌝ }
+fn count(words: &[u64]) -> usize
+    ensures { λ r. ⌜ r ≡ length (now (words .entry)) ⌝ }
 {
-    if !sound(h) {
+    words.len()
+}
+
+// How many numbers the record's array has. Its type says so; a proof has it from here.
+pub fn entire(h: &[u64; 87]) -> usize
+    ensures { λ r. ⌜ (r ≡ 87) × (length (now (h .entry)) ≡ 87) ⌝ }
+{
+    count(h)
+}
+
+// "3 record, 2": the head of every call.
+pub fn admit(s: Shape, h: &[u64; 87], nodes: usize, table: usize) -> Refusal
+    ensures { λ r. ⌜ (r ≡ admitted (recordOf s (now (h .entry))) nodes table) × (length (now (h .entry)) ≡ 87) ⌝ }
+{
+    let all = entire(h); // for the proofs of those who change it
+    if !sound(s, h) {
         return Refusal::Damaged;
     }
-    if !long_enough(h, nodes, table) {
+    if !long_enough(s, h[ATTRIBUTES], finished(h), nodes, table) {
         return Refusal::Short;
     }
     Refusal::Nothing

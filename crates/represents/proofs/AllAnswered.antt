@@ -11,18 +11,18 @@ use lib.Seq.{sets}
 use borrow.Author.Tests.{le-ltb}
 use Rattle.layout.specs.Layout.{entrySize, entryBytes, spread}
 use Rattle.layout.proofs.Encoded.{spread-snoc}
-use Rattle.record.specs.declared.History.{History}
+use Rattle.record.specs.Record.{History}
 use Rattle.record.specs.declared.Refusal.{Refusal}
 use Rattle.record.specs.declared.Refusal.the-variants.{Nothing, Damaged, Outside}
 use Rattle.record.specs.Refusals.{numberOf, accepted}
-use Rattle.questions.specs.declared.View.{View}
-use Rattle.questions.specs.View.{viewOf}
-use Rattle.questions.specs.Rules.{kept}
-use Rattle.questions.specs.Walk.{walkOf}
+use Rattle.walk.specs.declared.View.{View}
+use Rattle.walk.specs.View.{viewOf}
+use Rattle.walk.specs.Rules.{kept}
+use Rattle.walk.specs.Walk.{walkOf}
 use Rattle.questions.specs.Single.{entryFine}
 use Rattle.questions.specs.Full.{alone, fullEntry, everyQuark, fullEntries, refusedFull, fullRefusal, fullOf, fullWritten}
 use Rattle.model.specs.Transient.{Interval}
-use Rattle.model.specs.Questions.{only, each, full, walk}
+use Rattle.model.specs.Questions.{each, full, walk}
 use Rattle.model.specs.Refusals.{asked, refuseFull}
 use Rattle.model.specs.Theorems.{Run, Allowed, left, stands, Calls64}
 use Rattle.represents.specs.Represents.{entryOf}

@@ -8,7 +8,7 @@ use lib.Dec.{ltb, leb}
 use lib.ListN.{length, length-append}
 use borrow.Author.Tests.{lt-ltb, le-ltb, ltb-false}
 use Rattle.layout.specs.declared.Shape.{Shape}
-use Rattle.record.specs.declared.History.{History}
+use Rattle.record.specs.Record.{History}
 use Rattle.record.specs.declared.Refusal.the-variants.{Nothing}
 use Rattle.record.specs.Levels.{lastEndAt}
 use Rattle.record.specs.Moves.{withLargest, stretched}

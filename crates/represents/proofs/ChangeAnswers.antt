@@ -9,7 +9,7 @@ use borrow.Author.Tests.{leb-false, ltb-false}
 use mir.Syntax.{w64}
 use mir.Val.{SFits}
 use Rattle.layout.specs.declared.Shape.{Shape}
-use Rattle.record.specs.declared.History.{History}
+use Rattle.record.specs.Record.{History}
 use Rattle.record.specs.declared.Refusal.{Refusal}
 use Rattle.record.specs.declared.Refusal.the-variants.{Nothing, Short, Damaged, Finished, NoQuark, Outside, Early, Top, Deep, NoRoom}
 use Rattle.record.specs.Refusals.{numberOf}

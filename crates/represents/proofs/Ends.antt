@@ -9,7 +9,7 @@ use lib.ListN.{length, drop}
 use lib.Seq.{drop-at}
 use Rattle.layout.specs.declared.Shape.{Shape}
 use Rattle.layout.specs.Layout.{nodeSize, encode, encodeAll, newNode}
-use Rattle.record.specs.declared.History.{History}
+use Rattle.record.specs.Record.{History}
 use Rattle.build.specs.Moves.{Held, held, headOf, standsAt, putHead, putNew}
 use Rattle.build.specs.Write as W
 use Rattle.build.proofs.Steps.{planted-length}

@@ -1,5 +1,5 @@
 -- One attribute, set to 7 at 5, in a buffer of one node of 88 bytes: what the questions ask of record and buffers can be met, and the definitions compute.
-use Prim.Native.Nat.{ℕ, zero, suc, _-_, _<_}
+use Prim.Native.Nat.{ℕ, zero, suc, _<_}
 use mathlib.Core.Bool.{false}
 use mathlib.Core.Path.{_≡_, refl}
 use mathlib.Core.List.{List, [], _∷_, head-eq-of-cons-eq}
@@ -9,7 +9,7 @@ use lib.ListN.{replicate}
 use Rattle.words.specs.Words.{le, num}
 use Rattle.layout.specs.declared.Quark.{Quark}
 use Rattle.layout.specs.Layout as L
-use Rattle.record.specs.declared.History.{History}
+use Rattle.record.specs.Record.{History}
 use Rattle.record.specs.Refusals.{numberOf}
 use Rattle.record.specs.Sound as S
 use Rattle.transient.specs.Transient as T

@@ -10,7 +10,7 @@ use lib.Seq.{drop-at}
 use borrow.Author.Tests.{ltb-false}
 use Rattle.layout.specs.declared.Shape.{Shape}
 use Rattle.layout.specs.Layout.{nodeSize}
-use Rattle.record.specs.declared.History.{History}
+use Rattle.record.specs.Record.{History}
 use Rattle.record.specs.declared.Refusal.the-variants.{Nothing, Short, Damaged, Finished, Outside, Early}
 use Rattle.record.specs.Refusals.{accepted, numberOf}
 use Rattle.record.specs.Sound.{lastTime}

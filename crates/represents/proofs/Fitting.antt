@@ -1,5 +1,5 @@
 -- The nodes of a run fit their fields, so they can be read from a buffer that begins with their bytes. Assumes nothing.
-use Prim.Native.Nat.{ℕ, zero, suc, _+_, _*_, _^_, _≤_, _<_}
+use Prim.Native.Nat.{ℕ, zero, suc, _*_, _^_, _≤_, _<_}
 use mathlib.Core.Bool.{Bool, true, false, cond}
 use mathlib.Core.Path.{_≡_, refl, sym, ap, subst, _∙_}
 use mathlib.Core.Logic.{_⊎_, inl, inr}
@@ -7,20 +7,20 @@ use mathlib.Core.List.{List, [], _∷_, _++_, List·Memᴰ, List·Memᴰ·head, 
 use mathlib.Core.Option.{Option, none, some}
 use native.Mathlib.Omega.{arith}
 use lib.IntN.{pos}
-use lib.ListN.{length, getD, length-append}
+use lib.ListN.{length, getD}
 use mir.Syntax.{w64}
 use mir.Val.{SFits}
 use Rattle.layout.specs.Layout.{nodeSize}
-use Rattle.record.specs.declared.History.{History}
+use Rattle.record.specs.Record.{History}
 use Rattle.record.specs.Levels.{placeAt}
 use Rattle.record.proofs.Facts.{sound-shape, sound-numbers, sound-root}
 use Rattle.record.proofs.Room.{nodes-room}
-use Rattle.questions.specs.View.{viewOf}
+use Rattle.walk.specs.View.{viewOf}
 use Rattle.model.specs.State.{State, null, int, valueOf, Within64}
 use Rattle.model.specs.Transient.{Interval}
 use Rattle.model.specs.Build as M
 use Rattle.model.specs.Build.{Subtrees, childless, also, next}
-use Rattle.model.specs.Nodes.{∞, Node, blank, node, preorder, openEnd, seqs, upto, intervals}
+use Rattle.model.specs.Nodes.{∞, Node, blank, node, preorder, openEnd, intervals}
 use Rattle.model.specs.Invariant.{Inside, Good}
 use Rattle.model.specs.Rules.{Child, Sits, Known}
 use Rattle.model.specs.Theorems.{Run, Allowed, taken, left, tree, stands, made, Calls64, All64}

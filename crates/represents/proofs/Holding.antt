@@ -12,7 +12,7 @@ use Rattle.layout.specs.declared.Entry.{Entry}
 use Rattle.layout.specs.Layout as L
 use Rattle.layout.specs.Layout.{childSize, entrySize, nodeSize, childAt, entryAt, readHeader, readChild, readEntry, HeaderFits, ChildFits, EntryFits}
 use Rattle.layout.proofs.Read.{read-header, read-child, read-entry}
-use Rattle.questions.specs.declared.View.{View}
+use Rattle.walk.specs.declared.View.{View}
 use Rattle.model.specs.State.{State, null, int, kindOf}
 use Rattle.model.specs.Transient.{Interval}
 use Rattle.model.specs.Nodes.{∞, stateOf, Node, blank, intervals}

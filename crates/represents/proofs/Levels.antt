@@ -8,7 +8,7 @@ use lib.Dec.{leb, eqb}
 use lib.ListN.{length}
 use borrow.Author.Tests.{le-leb, lt-ltb, ne-eqb, eqb-false}
 use Rattle.layout.specs.declared.Shape.{Shape}
-use Rattle.record.specs.declared.Branch.{Branch}
+use Rattle.record.specs.Record.{Branch}
 use Rattle.record.specs.Levels.{placeAt, startAt, intervalsAt, childrenAt, lastEndAt}
 use Rattle.record.specs.Sound.{all, levelSound, apart, levelsSound, startsFall, lastEndSound}
 use Rattle.model.specs.Build.{Subtrees, childless, also, many, next, Open}

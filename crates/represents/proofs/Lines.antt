@@ -11,8 +11,7 @@ use borrow.Author.Tests.{lt-ltb, le-ltb, ne-eqb}
 use Rattle.layout.specs.declared.Seq.{Seq}
 use Rattle.layout.specs.declared.Shape.{Shape}
 use Rattle.layout.specs.Layout.{nodeSize}
-use Rattle.record.specs.declared.Branch.{Branch}
-use Rattle.record.specs.declared.History.{History}
+use Rattle.record.specs.Record.{Branch, History}
 use Rattle.record.specs.Levels.{seqAt, placeAt, startAt, intervalsAt, childrenAt, lastEndAt}
 use Rattle.record.specs.Moves.{levelStored, withBranch, closed, raised, made, stored}
 use Rattle.record.specs.Firm.{LevelIs, SameLevel}

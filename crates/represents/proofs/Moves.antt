@@ -8,7 +8,7 @@ use lib.ListN.{length, set, drop, length-append, length-set}
 use Rattle.layout.specs.declared.Shape.{Shape}
 use Rattle.layout.specs.declared.First.the-variants.{OneChild}
 use Rattle.layout.specs.Layout.{nodeSize, encode, newNode}
-use Rattle.record.specs.declared.History.{History}
+use Rattle.record.specs.Record.{History}
 use Rattle.record.specs.Levels.{seqAt, startAt, intervalsAt, childrenAt}
 use Rattle.record.specs.Moves.{withBranch, closed, raised, made, stored}
 use Rattle.record.proofs.Effects.{raised-at}

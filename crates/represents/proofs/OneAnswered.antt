@@ -9,14 +9,14 @@ use lib.Dec.{leb}
 use lib.ListN.{length}
 use borrow.Author.Tests.{leb-true, leb-false}
 use Rattle.layout.specs.declared.Quark.{Quark}
-use Rattle.record.specs.declared.History.{History}
+use Rattle.record.specs.Record.{History}
 use Rattle.record.specs.declared.Refusal.{Refusal}
 use Rattle.record.specs.declared.Refusal.the-variants.{Nothing, Damaged, Outside, NoQuark}
 use Rattle.record.specs.Refusals.{numberOf, accepted}
 use Rattle.questions.specs.declared.Single.{Single}
-use Rattle.questions.specs.View as Q
-use Rattle.questions.specs.View.{viewOf}
-use Rattle.questions.specs.Walk.{walkOf}
+use Rattle.walk.specs.View as Q
+use Rattle.walk.specs.View.{viewOf}
+use Rattle.walk.specs.Walk.{walkOf}
 use Rattle.questions.specs.Single.{refusedSingle, told, fromTable, entryFine, singleAnswer, singleRefusal, singleOf, tableEntry, toldEntry}
 use Rattle.questions.specs.Full.{fullEntry}
 use Rattle.model.specs.Transient.{Interval}

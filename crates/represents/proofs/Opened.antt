@@ -18,7 +18,7 @@ use Rattle.transient.proofs.Sound.{both, begins-fits}
 use Rattle.transient.proofs.Table.{length-with, ongoing-back, ongoing-other}
 use Rattle.build.specs.Write.{planted}
 use Rattle.build.proofs.Steps.{planted-length}
-use Rattle.calls.specs.Open.{blank, opened, tableOpened, openRefusal, openOf}
+use Rattle.calls.specs.Open.{blank, opened, tableOpened, openRefusal, openOn, openOf}
 use Rattle.model.specs.Transient as M
 use Rattle.model.specs.Build as B
 use Rattle.model.specs.Build.{build}
@@ -92,7 +92,7 @@ module _ (start attributes : ℕ) (s : Shape) (b table : List ℕ) where
       ∷ (not (longEnough (opened start attributes s) (length b) (length table)), 2)
       ∷ []
       )
-  unfolding openOf openRefusal numberOf
+  unfolding openOf openOn openRefusal numberOf
   open-answers = go (shapeAllowed s && leb start lastTime && leb attributes 4096) (longEnough (opened start attributes s) (length b) (length table)) refl refl
     where
       go : (x y : Bool) → shapeAllowed s && leb start lastTime && leb attributes 4096 ≡ x → longEnough (opened start attributes s) (length b) (length table) ≡ y
@@ -103,13 +103,13 @@ module _ (start attributes : ℕ) (s : Shape) (b table : List ℕ) where
 
   -- it says what its list answers
   pub open-says : openOf start attributes s b table .answer .refusal ≡ openRefusal start attributes s (length b) (length table)
-  unfolding openOf
+  unfolding openOf openOn
   open-says = said (openRefusal start attributes s (length b) (length table)) blank b table _ refl
 
   -- refused, it gives a record of zeros, and nothing is written
   pub open-refused : (openRefusal start attributes s (length b) (length table) ≡ Nothing → ⊥)
       → (openOf start attributes s b table .answer .history ≡ blank) × (openOf start attributes s b table .nodes ≡ b) × (openOf start attributes s b table .table ≡ table)
-  unfolding openOf openRefusal
+  unfolding openOf openOn openRefusal
   open-refused why = go (shapeAllowed s && leb start lastTime && leb attributes 4096) (longEnough (opened start attributes s) (length b) (length table)) refl refl
     where
       go : (x y : Bool) → shapeAllowed s && leb start lastTime && leb attributes 4096 ≡ x → longEnough (opened start attributes s) (length b) (length table) ≡ y
@@ -156,7 +156,7 @@ module _ (start attributes : ℕ) (s : Shape) (b table : List ℕ) where
   -- accepted, what is left stands for the history that was opened
   pub open-stands : openRefusal start attributes s (length b) (length table) ≡ Nothing
       → Stands opening [] (openOf start attributes s b table .answer .history) (openOf start attributes s b table .nodes) (openOf start attributes s b table .table)
-  unfolding openOf openRefusal opened longEnough
+  unfolding openOf openOn openRefusal opened longEnough
   open-stands e = go (shapeAllowed s && leb start lastTime && leb attributes 4096) (longEnough (opened start attributes s) (length b) (length table)) refl refl
     where
       go : (x y : Bool) → shapeAllowed s && leb start lastTime && leb attributes 4096 ≡ x → longEnough (opened start attributes s) (length b) (length table) ≡ y

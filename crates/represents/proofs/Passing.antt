@@ -10,12 +10,12 @@ use borrow.Author.Tests.{eqb-true, eq-eqb, lt-ltb, le-leb}
 use Rattle.layout.specs.declared.Header.{Header}
 use Rattle.layout.specs.Layout.{entrySize, readEntry}
 use Rattle.transient.specs.Transient.{stateSound}
-use Rattle.questions.specs.declared.View.{View}
-use Rattle.questions.specs.declared.Walk.{Walk}
-use Rattle.questions.specs.declared.Rule.the-variants.{Kept}
-use Rattle.questions.specs.Rules as Q
-use Rattle.questions.specs.Rules.{r1, r2, r3, r4, r5, broken, entrySound}
-use Rattle.questions.specs.Walk.{allSound}
+use Rattle.walk.specs.declared.View.{View}
+use Rattle.walk.specs.declared.Walk.{Walk}
+use Rattle.walk.specs.declared.Rule.the-variants.{Kept}
+use Rattle.walk.specs.Rules as Q
+use Rattle.walk.specs.Rules.{r1, r2, r3, r4, r5, broken, entrySound}
+use Rattle.walk.specs.Walk.{allSound}
 use Rattle.model.specs.State.{State, null, int, kindOf, valueOf}
 use Rattle.model.specs.Transient.{Interval}
 use Rattle.model.specs.Nodes.{∞, Node, blank}

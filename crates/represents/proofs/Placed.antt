@@ -5,7 +5,7 @@ use mathlib.Core.Path.{_≡_, refl, sym, ap, _∙_}
 use mathlib.Core.List.{List, [], _∷_, _++_, append-assoc}
 use native.Mathlib.Omega.{arith}
 use lib.Dec.{ltb}
-use lib.ListN.{length, getD, take, length-append, List·getD-append}
+use lib.ListN.{length, getD, take, length-append}
 use lib.Seq.{getD-at, take-all, take-append-le, take-append-seam}
 use borrow.Author.Tests.{ltb-true, ltb-false}
 use Rattle.model.specs.Build.{Subtrees, childless, also, Open}

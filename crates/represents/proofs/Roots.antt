@@ -8,8 +8,7 @@ use native.Mathlib.Omega.{arith}
 use lib.ListN.{length, drop}
 use Rattle.layout.specs.declared.Shape.{Shape}
 use Rattle.layout.specs.Layout.{nodeSize}
-use Rattle.record.specs.declared.Branch.{Branch}
-use Rattle.record.specs.declared.History.{History}
+use Rattle.record.specs.Record.{Branch, History}
 use Rattle.record.specs.Levels.{placeAt}
 use Rattle.record.specs.Sound.{sound, longEnough}
 use Rattle.transient.specs.Transient.{ongoingAt}

@@ -6,8 +6,7 @@ use mathlib.Core.List.{List, [], _∷_, _++_}
 use lib.ListN.{drop}
 use Rattle.layout.specs.declared.Shape.{Shape}
 use Rattle.layout.specs.Layout.{nodeSize}
-use Rattle.record.specs.declared.Branch.{Branch}
-use Rattle.record.specs.declared.History.{History}
+use Rattle.record.specs.Record.{Branch, History}
 use Rattle.record.specs.Levels.{placeAt}
 use Rattle.model.specs.Transient as M
 use Rattle.model.specs.Transient.{Call}

@@ -10,13 +10,13 @@ use lib.ListN.{length, getD}
 use borrow.Author.Tests.{eq-eqb, ne-eqb, lt-ltb, le-leb}
 use Rattle.layout.specs.declared.Header.{Header}
 use Rattle.layout.specs.Layout.{childSize, nodeSize, childAt, entryAt, readHeader, readChild}
-use Rattle.questions.specs.declared.View.{View}
-use Rattle.questions.specs.declared.Walk.{Walk}
-use Rattle.questions.specs.declared.Rule.the-variants.{Kept}
-use Rattle.questions.specs.Rules as Q
-use Rattle.questions.specs.Rules.{r5}
-use Rattle.questions.specs.Walk as W
-use Rattle.questions.specs.Walk.{ended, counted, allSound, pick, child, downTo, descend, inside, enter, step}
+use Rattle.walk.specs.declared.View.{View}
+use Rattle.walk.specs.declared.Walk.{Walk}
+use Rattle.walk.specs.declared.Rule.the-variants.{Kept}
+use Rattle.walk.specs.Rules as Q
+use Rattle.walk.specs.Rules.{r5}
+use Rattle.walk.specs.Walk as W
+use Rattle.walk.specs.Walk.{ended, counted, allSound, pick, child, downTo, descend, inside, enter, step}
 use Rattle.model.specs.Nodes.{∞, Node, blank}
 use Rattle.model.specs.Questions.{holds, orElse, lastAt, onward, chase}
 use Rattle.model.specs.Rules.{Child, Sits}

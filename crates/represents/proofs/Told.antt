@@ -1,5 +1,5 @@
 -- What the walk and the table tell of one attribute is what the model finds of it. Assumes nothing.
-use Prim.Native.Nat.{ℕ, suc, _+_, _-_, _≤_, _<_}
+use Prim.Native.Nat.{ℕ, suc, _≤_, _<_}
 use mathlib.Core.Bool.{Bool, true, false, cond, not, _&&_, false≢true}
 use mathlib.Core.Path.{_≡_, refl, sym, ap, subst, _∙_}
 use mathlib.Core.List.{List, [], _∷_, _++_, tail-eq-of-cons-eq}
@@ -9,13 +9,13 @@ use lib.Dec.{leb}
 use lib.ListN.{length}
 use borrow.Author.Tests.{eq-eqb, ne-eqb, le-leb}
 use Rattle.layout.specs.Layout.{readEntry}
-use Rattle.record.specs.declared.History.{History}
+use Rattle.record.specs.Record.{History}
 use Rattle.record.specs.Levels.{placeAt}
 use Rattle.transient.specs.declared.Ongoing.{Ongoing}
 use Rattle.transient.specs.Transient.{ongoingAt, ongoingSound, interval}
-use Rattle.questions.specs.declared.Rule.the-variants.{Kept}
-use Rattle.questions.specs.View.{viewOf}
-use Rattle.questions.specs.Walk.{walkOf}
+use Rattle.walk.specs.declared.Rule.the-variants.{Kept}
+use Rattle.walk.specs.View.{viewOf}
+use Rattle.walk.specs.Walk.{walkOf}
 use Rattle.questions.specs.Found.{many, foundOf, shown}
 use Rattle.questions.specs.Single.{told, toldEntry, fromTable, tableEntry, entryFine}
 use Rattle.questions.specs.Full.{alone, fullEntry}

@@ -8,7 +8,7 @@ use native.Mathlib.Nat.{add-zero, zero-add}
 use native.Mathlib.Omega.{arith}
 use lib.ListN.{length}
 use Rattle.layout.specs.declared.Entry.{Entry}
-use Rattle.record.specs.declared.History.{History}
+use Rattle.record.specs.Record.{History}
 use Rattle.record.specs.declared.Refusal.{Refusal}
 use Rattle.record.specs.Refusals.{accepted}
 use Rattle.record.specs.Sound.{all}

@@ -9,7 +9,7 @@ use lib.Dec.{ltb, leb}
 use lib.ListN.{length}
 use borrow.Author.Tests.{lt-ltb, le-ltb, ltb-true}
 use Rattle.layout.specs.declared.Shape.{Shape}
-use Rattle.record.specs.declared.Branch.{Branch}
+use Rattle.record.specs.Record.{Branch}
 use Rattle.record.specs.Levels.{childrenAt}
 use Rattle.build.specs.declared.settle.Verdict.the-variants.{Here, Chain, Close}
 use Rattle.build.specs.declared.settle.Verdict as B

@@ -7,10 +7,10 @@ use lib.ListN.{length}
 use lib.Seq.{sets}
 use borrow.Author.Tests.{le-leb, lt-leb}
 use Rattle.layout.specs.Layout.{entryBytes, spread}
-use Rattle.record.specs.declared.History.{History}
+use Rattle.record.specs.Record.{History}
 use Rattle.record.specs.declared.Refusal.the-variants.{Nothing}
 use Rattle.record.specs.Refusals.{numberOf}
-use Rattle.questions.specs.View.{viewOf}
+use Rattle.walk.specs.View.{viewOf}
 use Rattle.questions.specs.Single.{singleAnswer, viewSingle}
 use Rattle.questions.specs.Full.{fullEntries, walkedRefusal, walkedFull, walkedWritten}
 use Rattle.model.specs.Questions.{full}

@@ -13,13 +13,13 @@ use Rattle.layout.specs.declared.Shape.{Shape}
 use Rattle.layout.specs.declared.Header.{Header}
 use Rattle.layout.specs.Layout.{entrySize, nodeSize, entryAt, readEntry}
 use Rattle.record.proofs.Room.{node-inside}
-use Rattle.questions.specs.declared.View.{View}
-use Rattle.questions.specs.declared.Walk.{Walk}
-use Rattle.questions.specs.declared.Rule.the-variants.{Kept}
-use Rattle.questions.specs.Rules as Q
-use Rattle.questions.specs.Rules.{r5}
-use Rattle.questions.specs.Walk as W
-use Rattle.questions.specs.Walk.{rootOf, ended, counted, step, walkOf}
+use Rattle.walk.specs.declared.View.{View}
+use Rattle.walk.specs.declared.Walk.{Walk}
+use Rattle.walk.specs.declared.Rule.the-variants.{Kept}
+use Rattle.walk.specs.Rules as Q
+use Rattle.walk.specs.Rules.{r5}
+use Rattle.walk.specs.Walk as W
+use Rattle.walk.specs.Walk.{rootOf, ended, counted, step, walkOf}
 use Rattle.questions.specs.Found.{many, more, noted, look, lookIn, lookAt, found, foundOf}
 use Rattle.model.specs.Transient.{Interval}
 use Rattle.model.specs.Nodes.{∞, Node, blank, intervals}

@@ -13,8 +13,7 @@ use mir.Val.{SFits}
 use mir.Facts.{sfits-lit}
 use Rattle.layout.specs.declared.Shape.{Shape}
 use Rattle.layout.specs.Layout.{nodeSize, entrySize}
-use Rattle.record.specs.declared.Branch.{Branch}
-use Rattle.record.specs.declared.History.{History}
+use Rattle.record.specs.Record.{Branch, History}
 use Rattle.record.specs.Levels.{placeAt, startAt}
 use Rattle.record.specs.Sound.{lastTime, shapeAllowed, numbersSound, levelsSound, startsFall, lastEndSound, branchSound, sound, longEnough}
 use Rattle.record.proofs.Facts.{sound-shaped}

@@ -1,7 +1,7 @@
 -- A call of the model as a call on a record and two buffers: what it comes to.
 use Prim.Native.Nat.{ℕ}
 use mathlib.Core.List.{List, [], _∷_}
-use Rattle.record.specs.declared.History.{History}
+use Rattle.record.specs.Record.{History}
 use Rattle.transient.specs.declared.Change.{Change}
 use Rattle.transient.specs.declared.Change.the-variants.{Set, Remove, Increment}
 use Rattle.calls.specs.Outcome.{Outcome}

@@ -6,8 +6,7 @@ use mathlib.Core.List.{List, [], _∷_, _++_}
 use lib.ListN.{length, drop}
 use Rattle.layout.specs.declared.Shape.{Shape}
 use Rattle.layout.specs.Layout.{nodeSize, entrySize}
-use Rattle.record.specs.declared.Branch.{Branch}
-use Rattle.record.specs.declared.History.{History}
+use Rattle.record.specs.Record.{Branch, History}
 use Rattle.record.specs.Levels.{placeAt}
 use Rattle.record.specs.Sound.{lastTime, shapeAllowed}
 use Rattle.transient.specs.declared.Ongoing.{Ongoing}

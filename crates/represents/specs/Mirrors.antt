@@ -4,7 +4,7 @@ use mathlib.Core.Path.{_≡_}
 use mathlib.Core.Bool.{true, false}
 use mathlib.Core.List.{List, _++_}
 use lib.ListN.{length}
-use Rattle.record.specs.declared.History.{History}
+use Rattle.record.specs.Record.{History}
 use Rattle.record.specs.Levels.{placeAt}
 use Rattle.record.specs.Sound.{sound, longEnough}
 use Rattle.transient.specs.Transient.{ongoingAt}

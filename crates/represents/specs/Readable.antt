@@ -6,7 +6,7 @@ use lib.ListN.{length, getD}
 use mir.Syntax.{w64}
 use mir.Val.{SFits}
 use Rattle.layout.specs.Layout.{nodeSize}
-use Rattle.questions.specs.declared.View.{View}
+use Rattle.walk.specs.declared.View.{View}
 use Rattle.model.specs.State.{valueOf}
 use Rattle.model.specs.Transient.{Interval}
 use Rattle.model.specs.Nodes.{Node, blank, placed, intervals}

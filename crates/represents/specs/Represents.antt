@@ -10,8 +10,7 @@ use Rattle.layout.specs.declared.Child.{Child}
 use Rattle.layout.specs.declared.Entry.{Entry}
 use Rattle.layout.specs.Layout as L
 use Rattle.layout.specs.Layout.{nodeSize, encodeAll}
-use Rattle.record.specs.declared.Branch.{Branch}
-use Rattle.record.specs.declared.History.{History}
+use Rattle.record.specs.Record.{Branch, History}
 use Rattle.record.specs.Levels.{placeAt, startAt, intervalsAt, childrenAt, lastEndAt}
 use Rattle.record.specs.Firm.{Long}
 use Rattle.build.specs.Moves.{Held}

@@ -7,7 +7,7 @@ use lib.Dec.{leb}
 use lib.ListN.{length}
 use Rattle.layout.specs.declared.Shape.{Shape}
 use Rattle.layout.specs.Layout.{entrySize}
-use Rattle.record.specs.declared.History.{History}
+use Rattle.record.specs.Record.{History}
 use Rattle.record.specs.Refusals.{numberOf}
 use Rattle.record.specs.Sound.{lastTime, shapeAllowed, sound, longEnough}
 use Rattle.transient.specs.Transient.{ongoingAt, ongoingSound}

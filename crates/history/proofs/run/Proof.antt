@@ -11,28 +11,28 @@ use Rattle.history.proofs.run.Statement.{statement}
 use Rattle.history.proofs.run.Tie as tie
 
 abbrev Inv-loop : tie.InvT-loop
-Inv-loop bytes nodes₀ table₀ answer₀ s₀ place₀ i₀ nodes table answer s place i =
+Inv-loop bytes h₀ nodes₀ table₀ answer₀ s₀ place₀ i₀ h nodes table answer s place i =
     (i ≤ place) × (place ≤ length bytes) × (length nodes ≡ length nodes₀) × (length table ≡ length table₀) × (length answer ≡ length answer₀)
 
 abbrev μ-loop : tie.MeasureT-loop
-μ-loop bytes nodes₀ table₀ answer₀ s₀ place₀ i₀ nodes table answer s place i = length bytes - place
+μ-loop bytes h₀ nodes₀ table₀ answer₀ s₀ place₀ i₀ h nodes table answer s place i = length bytes - place
 
 -- the place that either arm goes on at
 ahead : (c : tie.At-match-came Inv-loop μ-loop) → Ahead (c .before .before .before .before .before .before .before .before .args .bytes .now) (c .before .before .loop .place) (c .match .place)
 ahead c =
     ⊎-elim
-    (λ w. rw (w .8) (after-refused _ _ _ (c .before .read-at .ensures) _ _ (w .1 .given .1)))
-    (λ w. rw (w .17) (after-read _ _ _ (c .before .read-at .ensures) _ _ (w .1 .given .1)))
+    (λ w. rw (w .9) (after-refused _ _ _ (c .before .read-at .ensures) _ _ (w .1 .given .1)))
+    (λ w. rw (w .19) (after-read _ _ _ (c .before .read-at .ensures) _ _ (w .1 .given .1)))
     (c .match .came)
 
 nodes-long : (c : tie.At-match-came Inv-loop μ-loop) → length (c .match .nodes) ≡ length (c .before .before .before .before .before .before .before .before .args .nodes .now)
-nodes-long c = ⊎-elim (λ w. omega (arith, ap length (w .4))) (λ w. omega (arith, ap length (w .13))) (c .match .came)
+nodes-long c = ⊎-elim (λ w. omega (arith, ap length (w .5))) (λ w. omega (arith, ap length (w .15))) (c .match .came)
 
 table-long : (c : tie.At-match-came Inv-loop μ-loop) → length (c .match .table) ≡ length (c .before .before .before .before .before .before .before .before .args .table .now)
-table-long c = ⊎-elim (λ w. omega (arith, ap length (w .5))) (λ w. omega (arith, ap length (w .14))) (c .match .came)
+table-long c = ⊎-elim (λ w. omega (arith, ap length (w .6))) (λ w. omega (arith, ap length (w .16))) (c .match .came)
 
 answer-long : (c : tie.At-match-came Inv-loop μ-loop) → length (c .match .answer) ≡ length (c .before .before .before .before .before .before .before .before .args .answer .now)
-answer-long c = ⊎-elim (λ w. omega (arith, ap length (w .6))) (λ w. omega (arith, ap length (w .15))) (c .match .came)
+answer-long c = ⊎-elim (λ w. omega (arith, ap length (w .7))) (λ w. omega (arith, ap length (w .17))) (c .match .came)
 
 add-i : tie.Need-add-i Inv-loop μ-loop
 add-i c = let a = ahead c in omega arith

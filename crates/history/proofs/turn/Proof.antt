@@ -1,5 +1,6 @@
 -- `history::turn` meets its contract: what is printed of a full question was written. Assumes nothing.
 use borrow.Author.Needs.{needs}
+use Rattle.history.specs.Step.{stateIn}
 use Rattle.history.proofs.Entries.{carried-entries}
 use Rattle.history.proofs.turn.Statement.{statement}
 use Rattle.history.proofs.turn.Tie as tie
@@ -9,7 +10,11 @@ turn-spec =
     tie.close
     (tie.spec
     (λ c κs. search needs)
-    (λ c κs. carried-entries _ _ _ _ _ _ _ _ _ (c .before .before .before .before .before .before .before .carry-out .ensures) (search needs))
+    (λ c. search needs)
+    (λ c κs.
+    let k = c .before .before .before .before .before .before .before .before in
+    let a = k .before .before .before .before .before .before .before .before .args in
+    carried-entries (stateIn (a .s) (a .h .now)) (a .nodes .now) (a .table .now) (a .answer .now) _ _ _ _ _ _ (k .carry-out .ensures) (search needs))
     (λ c. search needs)
     (λ c. search needs)
     (λ c. search needs)

@@ -7,8 +7,8 @@ use Rattle.measure.proofs.history_measure.Tie as tie
 returns : tie.Need-returns
 returns c =
     let p = c .before .before .before .before .before .before .before .before .before in
-    let o = p .before .before .before .before .before .before .before .before .before in
-    measure-done _ _ _ _ _ _ _ _ _ _ _ _ _ (o .«open» .ensures) _ _ _ _ _ (p .play .ensures) _ (c .number .ensures)
+    let o = p .before .before .before .before .before .before .before .before .before .before in
+    measure-done _ _ _ _ _ _ _ _ _ _ _ _ _ _ (o .«open» .ensures) _ _ _ _ _ (p .play .ensures) _ (c .number .ensures)
 
 pub history-measure-spec : {M : Type 1} → statement M
 history-measure-spec =

@@ -7,8 +7,8 @@ use Rattle.measure.proofs.history_measure_finished.Tie as tie
 returns-2 : tie.Need-returns-2
 returns-2 c =
     let p = c .before .before .before .before .before .before .before .before in
-    let f = p .before .before .before .before .before in
-    finished-done _ _ _ _ _ _ _ _ _ _ _ _ _ _ (f .before .if1 .left) _ (f .finished .ensures) _ _ _ _ _ (p .play .ensures)
+    let f = p .before .before .before .before .before .before in
+    finished-done _ _ _ _ _ _ _ _ _ _ _ _ _ _ (f .before .if1 .left) _ (f .finished .ensures .1 _) _ _ _ _ _ (p .play .ensures)
 
 pub history-measure-finished-spec : {M : Type 1} → statement M
 history-measure-finished-spec =

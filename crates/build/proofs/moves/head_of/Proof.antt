@@ -1,6 +1,8 @@
 -- `build::moves::head_of` meets its contract. Assumes nothing.
+use native.Mathlib.Omega.{arith}
 use borrow.Author.Needs.{needs}
-use Rattle.build.proofs.Heads.{head-made}
+use Rattle.record.proofs.Lies.{place-lies, intervals-lie, children-lie}
+use Rattle.build.proofs.Heads.{head-read}
 use Rattle.build.proofs.moves.head_of.Statement.{statement}
 use Rattle.build.proofs.moves.head_of.Tie as tie
 
@@ -14,8 +16,14 @@ head-of-spec =
     (λ c. search needs)
     (λ c. search needs)
     (λ c. search needs)
+    (λ c. let a = c .before .before .before in omega (arith, a .pre .place, place-lies (a .args .h .now) (a .args .level) (a .pre .level)))
     (λ c. search needs)
     (λ c. search needs)
     (λ c. search needs)
+    (λ c. let a = c .before .before .before .before in omega (arith, a .pre .intervals, intervals-lie (a .args .h .now) (a .args .level) (a .pre .level)))
     (λ c. search needs)
-    (λ c. search head-made))
+    (λ c. search needs)
+    (λ c. search needs)
+    (λ c. let a = c .before .before .before .before .before in omega (arith, a .pre .children, children-lie (a .args .h .now) (a .args .level) (a .pre .level)))
+    (λ c. search needs)
+    (λ c. let k = c .before .before .before .before in let a = k .before in head-read (a .args .h .now) (a .args .level) (a .pre .level) _ _ _ (k .parent-of .ensures)))

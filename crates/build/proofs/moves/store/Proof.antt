@@ -1,7 +1,9 @@
 -- `build::moves::store` meets its contract. Assumes nothing.
 use native.Mathlib.Omega.{arith}
 use borrow.Author.Needs.{needs}
-use Rattle.build.proofs.Stands.{open-stands, stored-stands, has-place}
+use Rattle.record.specs.Record.{recordOf}
+use Rattle.record.proofs.Lies.{intervals-lie}
+use Rattle.build.proofs.Stands.{has-place, stored-stands}
 use Rattle.build.proofs.Heads.{entry-small, entry-inside, store-done}
 use Rattle.build.proofs.moves.store.Statement.{statement}
 use Rattle.build.proofs.moves.store.Tie as tie
@@ -10,17 +12,20 @@ pub store-spec : {M : Type 1} → statement M
 store-spec =
     tie.close
     (tie.spec
+    (λ c. search needs)
+    (λ c. search needs)
+    (λ c. search needs)
+    (λ c. let a = c .before .before in let p = a .pre in let f = p .1 in
+    omega (arith, p .5, f .shaped .small, intervals-lie (a .args .h .now) (a .args .level) (omega (arith, p .4, f .top))))
     (λ c κs. search needs)
-    (λ c κs. search (stored-stands, open-stands))
-    (λ c κs. let a = c .before .before .before .before .before .before in let p = a .pre in has-place (a .args .h) (a .args .nodes .now) (p .0) (p .1) _ (p .2) (p .3))
-    (λ c. search needs)
-    (λ c. search needs)
-    (λ c. search needs)
+    (λ c κs. let a = c .before .before .before .before in let p = a .pre in has-place (recordOf (a .args .shape) (a .args .h .now)) (a .args .nodes .now) (p .1) (p .2) (a .args .level) (p .3) (p .4))
     (λ c κs. search needs)
-    (λ c. let a = c .before .before .before .before .before .before .before .before .before .before .before in let p = a .pre in
-    omega (arith, entry-small (a .args .h) _ (c .before .before .before .before .place-of .ensures .1) _ (p .0 .shaped) _ (p .4) (c .before .entry-at .ensures)))
-    (λ c κs. let a = c .before .before .before .before .before .before .before .before .before .before .before in let p = a .pre in
-    entry-inside (a .args .h) _ (c .before .before .before .before .place-of .ensures .1) _ _ _ _ _ _ _ (p .1) (c .before .before .before .before .before .before .before .put-head .ensures) _ (p .4) (c .before .entry-at .ensures))
+    (λ c κs. let m = c .before .before in let a = m .before .before .before .before .before .before .before in let p = a .pre in let s = a .args .shape in
+    stored-stands (recordOf s (a .args .h .now)) (a .args .nodes .now) (p .1) (p .2) (a .args .level) (p .3) (p .4) (recordOf s (m .stored .last .0)) (m .stored .ensures .1 s) (p .5))
+    (λ c. let l = c .before .before .before .before .before .before .before .before in let k = l .before .before in let a = k .before .before .before in
+    omega (arith, entry-small (a .args .shape) (a .args .h .now) (a .args .nodes .now) _ _ (l .place-of .ensures .1) (a .args .level) (a .pre) (k .entry-at .ensures)))
+    (λ c κs. let n = c .before .before .before in let m = n .before .before .before in let l = m .before .before in let k = l .before .before in let a = k .before .before .before in
+    entry-inside (a .args .shape) (a .args .h .now) (a .args .nodes .now) _ _ (l .place-of .ensures .1) (a .args .level) (a .pre) (k .entry-at .ensures) (m .stored .last .0) _ (n .put-head .ensures))
     (λ c. search needs)
-    (λ c. let k = c .before .before .before .before .before .before .before .before .before .before in
-    store-done (k .before .before .before .before .args .h) _ _ _ _ _ (k .before .before .before .before .args .nodes .now) _ _ (k .before .before .stored .ensures) (c .before .before .before .before .before .before .before .place-of .ensures .0) (c .before .before .before .before .entry-at .ensures) (k .put-head .ensures) (c .before .before .put-entry .ensures)))
+    (λ c. let o = c .before .before in let n = o .before .before .before .before in let m = n .before .before .before in let l = m .before .before in let k = l .before .before in let a = k .before .before .before in
+    store-done (a .args .shape) (a .args .h .now) (a .args .nodes .now) _ _ (l .place-of .ensures .1) (a .args .level) (a .pre) (k .entry-at .ensures) (m .stored .last .0) _ (n .put-head .ensures) _ _ (l .place-of .ensures .0) (m .stored .ensures) (o .put-entry .ensures)))

@@ -10,6 +10,9 @@ refusal-spec =
     (tie.spec
     (λ c. search answers)
     (λ c. search needs)
+    (λ c. search needs)
+    (λ c. search needs)
+    (λ c. search needs)
     (λ c κs. search needs)
     (λ c. search answers)
     (λ c. search answers))

@@ -6,19 +6,19 @@ use Rattle.build.proofs.write.climb.Statement.{statement}
 use Rattle.build.proofs.write.climb.Tie as tie
 
 abbrev Inv-loop : tie.InvT-loop
-Inv-loop nodes₀ n g₀ i₀ nodes g i = ClimbLeft n g₀ nodes₀ i g nodes
+Inv-loop nodes₀ shape h₀ n i₀ nodes h i = ClimbLeft shape n h₀ nodes₀ i h nodes
 
 abbrev μ-loop : tie.MeasureT-loop
-μ-loop nodes₀ n g₀ i₀ nodes g i = n - i
+μ-loop nodes₀ shape h₀ n i₀ nodes h i = n - i
 
 pub climb-spec : {M : Type 1} → statement M
 climb-spec =
     tie.close
     (tie.spec Inv-loop μ-loop
-    (λ c. climb-begins _ _ _ (c .before .pre .0) (c .before .pre .1))
-    (λ c κs. climb-needs _ _ _ _ _ _ (c .before .before .loop .inv) (c .before .loop-test .taken))
+    (λ c. let p = c .before .pre in climb-begins _ _ _ _ (p .0) (p .1) (p .2))
+    (λ c κs. climb-needs _ _ _ _ _ _ _ (c .before .before .before .loop .inv) (c .before .before .loop-test .taken))
     (λ c. search needs)
     (λ c. search needs)
-    (λ c. climb-turn _ _ _ _ _ _ (c .before .before .before .before .before .loop .inv) (c .before .before .before .before .loop-test .taken) _ _ (c .before .before .rise .ensures))
+    (λ c. let k = c .before .before .before .before .before in climb-turn _ _ _ _ _ _ _ (k .before .loop .inv) (k .loop-test .taken) _ _ (c .before .before .rise .ensures))
     (λ c. c .before .loop .inv .long)
-    (λ c. climb-done _ _ _ _ _ _ (c .before .loop .inv) (c .loop-test .left)))
+    (λ c. climb-done _ _ _ _ _ _ _ (c .before .loop .inv) (c .loop-test .left)))

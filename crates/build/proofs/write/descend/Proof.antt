@@ -5,19 +5,19 @@ use Rattle.build.proofs.write.descend.Statement.{statement}
 use Rattle.build.proofs.write.descend.Tie as tie
 
 abbrev Inv-loop : tie.InvT-loop
-Inv-loop nodes₀ start n g₀ level₀ nodes g level = DescendLeft start n g₀ nodes₀ level g nodes
+Inv-loop nodes₀ shape h₀ start n level₀ nodes h level = DescendLeft shape start n h₀ nodes₀ level h nodes
 
 abbrev μ-loop : tie.MeasureT-loop
-μ-loop nodes₀ start n g₀ level₀ nodes g level = level
+μ-loop nodes₀ shape h₀ start n level₀ nodes h level = level
 
 pub descend-spec : {M : Type 1} → statement M
 descend-spec =
     tie.close
     (tie.spec Inv-loop μ-loop
-    (λ c. descend-begins _ _ _ _ (c .before .pre .0) (c .before .pre .1))
+    (λ c. let p = c .before .pre in descend-begins _ _ _ _ _ (p .0) (p .1) (p .2))
     (λ c. search needs)
-    (λ c κs. descend-needs _ _ _ _ _ _ _ (c .before .before .loop .inv) (c .before .loop-test .taken))
+    (λ c κs. descend-needs _ _ _ _ _ _ _ _ (c .before .before .before .loop .inv) (c .before .before .loop-test .taken))
     (λ c. search needs)
-    (λ c. descend-turn _ _ _ _ _ _ _ (c .before .before .before .before .before .loop .inv) (c .before .before .before .before .loop-test .taken) _ _ (c .before .before .make .ensures))
+    (λ c. let k = c .before .before .before .before .before in descend-turn _ _ _ _ _ _ _ _ (k .before .loop .inv) (k .loop-test .taken) _ _ (c .before .before .make .ensures))
     (λ c. c .before .loop .inv .long)
-    (λ c. descend-done _ _ _ _ _ _ _ (c .before .loop .inv) (c .loop-test .left)))
+    (λ c. descend-done _ _ _ _ _ _ _ _ (c .before .loop .inv) (c .loop-test .left)))

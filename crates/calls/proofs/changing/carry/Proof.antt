@@ -1,6 +1,7 @@
 -- `calls::changing::carry` meets its contract. Assumes nothing.
 use borrow.Author.Needs.{needs}
-use Rattle.calls.proofs.Changes.{carry-top, carry-same, carry-replaced, carry-due, carry-ended}
+use Rattle.record.specs.Record.{recordOf}
+use Rattle.calls.proofs.Changes.{carry-top, carry-same, carry-replaced, carry-before, carry-ended}
 use Rattle.calls.proofs.changing.carry.Statement.{statement}
 use Rattle.calls.proofs.changing.carry.Tie as tie
 
@@ -13,14 +14,33 @@ carry-spec =
     (λ c. search needs)
     (λ c κs. search needs)
     (λ c. search needs)
-    (λ c κs. c .before .before .before .before .before .before .before .pre .entry)
+    (λ c κs. search needs)
     (λ c κs. search needs)
     (λ c. search needs)
-    (λ c κs. carry-due _ _ _ _ _ _ _ _ (c .before .before .before .before .before .decide .ensures) _ (c .before .before .before .d2 .given .1) (c .before .before .before .before .before .before .before .before .pre))
-    (λ c. carry-top _ _ _ _ _ _ _ _ (c .before .before .decide .ensures) (c .enum-told .given .1))
-    (λ c. carry-same _ _ _ _ _ _ _ _ (c .before .before .before .decide .ensures) _ (c .before .enum-told2 .given .1) (c .at-time .ensures))
+    (λ c κs.
+    let k = c .before .before .before .before in
+    let p = k .before .before .before .before .before .pre in
+    (p .0, p .1, carry-before _ _ _ _ _ _ _ _ (k .before .before .decide .ensures) _ (k .d2 .given .1) (p .1)))
+    (λ c.
+    let s = c .before .before .before .before .before .args in
+    let h = recordOf (s .shape) (s .h .now) in
+    (c .before .before .before .before .before .pre .0, carry-top h _ _ _ _ _ _ _ (c .before .before .decide .ensures) (c .enum-told .given .1)))
+    (λ c.
+    let s = c .before .before .before .before .before .before .before .args in
+    let h = recordOf (s .shape) (s .h .now) in
+    let a = c .at-time .ensures in
+    (a .0, carry-same h _ _ _ _ _ _ _ (c .before .before .before .before .decide .ensures) _ (c .before .before .enum-told2 .given .1) (a .1 (s .shape))))
     (λ c. search needs)
-    (λ c. carry-replaced _ _ _ _ _ _ _ _ (c .before .before .before .before .before .before .before .before .decide .ensures) _ _ _ (c .before .before .before .before .before .before .d .given .1) (c .before .before .before .put-ongoing .ensures) (c .at-time2 .ensures))
+    (λ c.
+    let k = c .before .before .before .before .before .before .before in
+    let s = k .before .before .before .before .before .args in
+    let h = recordOf (s .shape) (s .h .now) in
+    let a = c .at-time2 .ensures in
+    (a .0, carry-replaced h _ _ _ _ _ _ _ (k .before .before .decide .ensures) _ _ _ (k .d .given .1) (c .before .before .before .before .put-ongoing .ensures) (a .1 (s .shape))))
     (λ c. search needs)
     (λ c. search needs)
-    (λ c. carry-ended _ _ _ _ _ _ _ _ (c .before .before .before .before .before .before .before .before .before .before .decide .ensures) _ (c .before .before .before .before .before .before .before .before .d2 .given .1) _ _ _ (c .before .before .before .before .store .ensures)))
+    (λ c.
+    let k = c .before .before .before .before .before .before .before .before .before in
+    let s = k .before .before .before .before .before .args in
+    let h = recordOf (s .shape) (s .h .now) in
+    carry-ended h _ _ _ _ _ _ _ (k .before .before .decide .ensures) _ (k .d2 .given .1) _ (s .shape) _ _ _ (c .before .before .before .before .store .ensures)))

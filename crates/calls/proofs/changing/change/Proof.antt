@@ -1,5 +1,6 @@
 -- `calls::changing::change` meets its contract. Assumes nothing.
 use borrow.Author.Needs.{needs}
+use Rattle.record.specs.Record.{recordOf}
 use Rattle.build.proofs.Trials.{refused}
 use Rattle.calls.proofs.Changes.{asked-entry, due, change-unasked, change-untimely, change-carried}
 use Rattle.calls.proofs.changing.change.Statement.{statement}
@@ -11,20 +12,35 @@ change-spec =
     (tie.spec
     (λ c κs. search needs)
     (λ c. search needs)
-    (λ c. change-unasked _ _ _ _ _ _ _ (c .before .unasked .ensures) (refused (c .before .unasked .result) (c .match .keys2)))
-    (λ c κs. asked-entry _ _ _ _ _ (c .before .before .before .unasked .ensures) (c .before .enum-told .given .1))
+    (λ c.
+    let s = c .before .before .before .before .before .args in
+    let h = recordOf (s .shape) (s .h .now) in
+    let u = c .before .unasked .ensures in
+    (u .1, change-unasked h _ _ _ _ _ _ (u .0) (refused (c .before .unasked .result) (c .match .keys2))))
+    (λ c κs.
+    let s = c .before .before .before .before .before .before .before .args in
+    let h = recordOf (s .shape) (s .h .now) in
+    asked-entry h _ _ _ _ (c .before .before .before .unasked .ensures .0) (c .before .enum-told .given .1))
     (λ c κs. search needs)
     (λ c. search needs)
     (λ c. search needs)
     (λ c.
-    let k = c .before .before .before .before in
-    change-untimely _ _ _ _ _ _ _ (k .before .before .unasked .ensures) (k .enum-told .given .1) _ (c .before .before .read-ongoing .ensures) _ (c .before .untimely .ensures) (refused (c .before .untimely .result) (c .match2 .keys2)))
+    let k = c .before .before .before .before .before in
+    let s = k .before .before .before .before .before .before .args in
+    let h = recordOf (s .shape) (s .h .now) in
+    let u = k .before .before .unasked .ensures in
+    (u .1, change-untimely h _ _ _ _ _ _ (u .0) (k .enum-told .given .1) _ (c .before .before .before .read-ongoing .ensures) _ (c .before .untimely .ensures) (refused (c .before .untimely .result) (c .match2 .keys2))))
     (λ c κs.
-    let k = c .before .before .before .before .before .before .before in
-    due _ _ _ _ _ _ _ _ (k .before .before .unasked .ensures) (k .enum-told .given .1) (c .before .before .before .before .untimely .ensures) (c .before .before .enum-told2 .given .1))
+    let k = c .before .before .before .before .before .before .before .before .before in
+    let s = k .before .before .before .before .before .before .args in
+    let h = recordOf (s .shape) (s .h .now) in
+    let u = k .before .before .unasked .ensures in
+    (u .1, due h _ _ _ _ _ _ _ (u .0) (k .enum-told .given .1) (c .before .before .before .before .before .untimely .ensures) (c .before .before .before .enum-told2 .given .1)))
     (λ c. search needs)
     (λ c. search needs)
     (λ c.
-    let u = c .before .before .before .before .before .before .before .before .before in
-    let k = u .before .before .before in
-    change-carried _ _ _ _ _ _ _ (k .before .before .unasked .ensures) (k .enum-told .given .1) _ (u .before .read-ongoing .ensures) _ (u .untimely .ensures) (c .before .before .before .before .before .before .before .enum-told2 .given .1) _ _ _ (c .before .before .before .before .carry .ensures)))
+    let v = c .before .before .before .before .before .before .before .before .before .before in
+    let k = v .before .before .before .before in
+    let s = k .before .before .before .before .before .before .args in
+    let h = recordOf (s .shape) (s .h .now) in
+    change-carried h _ _ _ _ _ _ (k .before .before .unasked .ensures .0) (k .enum-told .given .1) _ (v .before .before .read-ongoing .ensures) _ (v .untimely .ensures) (c .before .before .before .before .before .before .before .before .enum-told2 .given .1) _ (s .shape) _ _ _ (c .before .before .before .before .carry .ensures)))

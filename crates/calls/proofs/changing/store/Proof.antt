@@ -1,5 +1,6 @@
 -- `calls::changing::store` meets its contract. Assumes nothing.
 use borrow.Author.Needs.{needs}
+use Rattle.record.specs.Record.{recordOf}
 use Rattle.build.proofs.Trials.{refused}
 use Rattle.calls.proofs.Changes.{entry-ends, store-refused, store-done}
 use Rattle.calls.proofs.changing.store.Statement.{statement}
@@ -12,17 +13,24 @@ store-spec =
     (λ c. search needs)
     (λ c κs. search needs)
     (λ c κs.
-    let due = c .before .before .before .before .pre .0 in
-    (due .firm, due .room, entry-ends _ _ _ _ (c .before .ongoing-entry .ensures) (due .last)))
+    let p = c .before .before .before .before .before .pre in
+    (p .0, p .1 .firm, p .1 .room, entry-ends _ _ _ _ (c .before .before .ongoing-entry .ensures) (p .1 .last)))
     (λ c. search needs)
     (λ c. search needs)
     (λ c.
-    let i = c .before .before .before in
-    store-refused _ _ _ _ _ _ _ _ (i .before .before .ongoing-entry .ensures) (i .insert .result) _ (i .insert .ensures) (refused (i .insert .result .refusal) (c .match .keys2)))
-    (λ c κs. c .before .before .before .before .before .before .before .before .before .before .pre .0 .entry)
+    let k = c .before .before .before in
+    let s = k .before .before .before .before .before .before .args in
+    let h = recordOf (s .shape) (s .h .now) in
+    let e = k .insert .ensures in
+    (e .1 .0, store-refused h _ _ _ _ _ _ _ (k .before .before .before .ongoing-entry .ensures) _ _ _ (e .0, e .1 .1, e .1 .2) (refused (k .insert .result) (c .match .keys2))))
+    (λ c κs. search needs)
     (λ c κs. search needs)
     (λ c. search needs)
     (λ c. search needs)
     (λ c.
-    let i = c .before .before .before .before .before .before .before .before .before in
-    store-done _ _ _ _ _ _ _ _ (i .before .before .ongoing-entry .ensures) (i .insert .result) _ (i .insert .ensures) _ _ (c .before .before .before .before .before .enum-told .given .1) (c .at-time .ensures) (c .before .before .before .put-ongoing .ensures)))
+    let k = c .before .before .before .before .before .before .before .before .before .before in
+    let s = k .before .before .before .before .before .before .args in
+    let h = recordOf (s .shape) (s .h .now) in
+    let e = k .insert .ensures in
+    let a = c .at-time .ensures in
+    (a .0, store-done h _ _ _ _ _ _ _ (k .before .before .before .ongoing-entry .ensures) _ _ _ (e .0, e .1 .1, e .1 .2) _ _ (c .before .before .before .before .before .before .enum-told .given .1) (a .1 (s .shape)) (c .before .before .before .before .put-ongoing .ensures))))

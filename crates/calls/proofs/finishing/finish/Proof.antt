@@ -11,9 +11,27 @@ finish-spec =
     (tie.spec
     (λ c κs. search needs)
     (λ c. search needs)
-    (λ c. finish-refused _ _ _ _ _ (c .before .refusal .ensures) (refused (c .before .refusal .result) (c .match .keys2)))
-    (λ c κs. finish-needs _ _ _ _ _ (c .before .before .before .refusal .ensures) (c .before .enum-told .given .1))
-    (λ c κs. close-needs _ _ _ _ _ (c .before .before .before .before .before .before .before .refusal .ensures) (c .before .before .before .before .before .enum-told .given .1) _ _ (c .before .before .before .store-all .ensures))
-    (λ c κs. finished-needs _ _ _ _ _ (c .before .before .before .before .before .before .before .before .before .before .refusal .ensures) (c .before .before .before .before .before .before .before .before .enum-told .given .1) _ _ (c .before .before .before .before .before .before .store-all .ensures))
+    (λ c. let e = c .before .refusal .ensures in (e .1, finish-refused _ _ _ _ _ (e .0) (refused (c .before .refusal .result) (c .match .keys2))))
+    (λ c κs.
+    let t = c .before .before in
+    let e = t .before .before .refusal .ensures in
+    let n = finish-needs _ _ _ _ _ (e .0) (t .enum-told .given .1) in
+    (e .1, n .0, n .1, n .2, n .3, n .4))
+    (λ c κs.
+    let s = c .before .before .before .before in
+    let t = s .before .before .before in
+    let e = s .store-all .ensures in
+    close-needs _ _ _ _ _ (t .before .before .refusal .ensures .0) (t .enum-told .given .1) _ _ (e .1) (e .2))
+    (λ c κs.
+    let s = c .before .before .before .before .before .before .before .before in
+    let t = s .before .before .before in
+    let e = s .store-all .ensures in
+    (e .0, finished-needs _ _ _ _ _ (t .before .before .refusal .ensures .0) (t .enum-told .given .1) _ _ (e .1) (e .2)))
     (λ c. search needs)
-    (λ c. finish-done _ _ _ _ _ (c .before .before .before .before .before .before .before .before .before .before .before .refusal .ensures) (c .before .before .before .before .before .before .before .before .before .enum-told .given .1) _ _ (c .before .before .before .before .before .before .before .store-all .ensures) _ _ (c .before .before .before .close-all .ensures) (c .finished .ensures)))
+    (λ c.
+    let k = c .before .before .before .before in
+    let s = k .before .before .before .before .before in
+    let t = s .before .before .before in
+    let e = s .store-all .ensures in
+    let f = c .finished .ensures in
+    (f .0, finish-done _ _ _ _ _ (t .before .before .refusal .ensures .0) (t .enum-told .given .1) _ _ (e .1) (e .2) _ _ (k .close-all .ensures) (f .1 _))))

@@ -11,17 +11,20 @@ open-spec =
     tie.close
     (tie.spec
     (λ c κs. search needs)
+    (λ c κs. search needs)
     (λ c. search needs)
+    (λ c. (c .before .before .entire .ensures .1, open-refused _ _ _ _ _ _ _ (c .before .refusal .ensures) (refused (c .before .refusal .result) (c .match .keys2))))
     (λ c κs. search needs)
-    (λ c. open-refused _ _ _ _ _ _ (c .before .before .refusal .ensures) _ (c .blank .ensures) (refused (c .before .before .refusal .result) (c .before .match .keys2)))
-    (λ c κs. search needs)
-    (λ c κs. opens-standing _ _ _ _ _ _ (c .before .before .before .before .refusal .ensures) (c .before .before .enum-told .given .1) _ _ refl (c .before .opened .ensures))
     (λ c κs.
-    let k = c .before .before .before .before .before .before in
+    let k = c .before .before .before .before in
+    opens-standing _ _ _ _ _ _ (k .before .before .refusal .ensures) (k .enum-told .given .1) _ _ refl (c .before .before .begin .ensures .1 _))
+    (λ c κs.
+    let k = c .before .before .before .before .before .before .before .before in
     opens-table _ _ _ _ _ _ (k .before .before .refusal .ensures) (k .enum-told .given .1))
     (λ c. search needs)
     (λ c. search needs)
     (λ c.
-    let k = c .before .before .before .before .before .before .before .before .before in
     let p = c .before .before .before .before .before .before in
-    open-done _ _ _ _ _ _ (k .before .before .refusal .ensures) _ _ _ (k .enum-told .given .1) (p .before .before .opened .ensures) (p .plant .ensures) (c .before .before .open-table .ensures)))
+    let b = p .before .before .before in
+    let k = b .before .before in
+    (b .begin .ensures .0, open-done _ _ _ _ _ _ _ (k .before .before .refusal .ensures) _ _ _ (k .enum-told .given .1) (b .begin .ensures .1 _) (p .plant .ensures) (c .before .before .open-table .ensures))))

@@ -10,7 +10,6 @@ refusal-spec =
     (tie.spec
     (λ c κs. search needs)
     (λ c. open-numbers _ _ _ _ _ _ (c .before .shape-allowed .ensures) (c .if1 .taken))
-    (λ c κs. search needs)
-    (λ c κs. open-small (c .before .before .before .args .start) (c .before .before .before .args .attributes) (c .before .before .before .args .shape) 0 0 _ (c .before .before .shape-allowed .ensures) (c .before .if1 .left) _ (c .opened .ensures))
-    (λ c. open-short _ _ _ _ _ _ (c .before .before .before .before .shape-allowed .ensures) (c .before .before .before .if1 .left) _ (c .before .before .opened .ensures) _ (c .before .long-enough .ensures) (c .if2 .taken))
-    (λ c. open-fine _ _ _ _ _ _ (c .before .before .before .before .shape-allowed .ensures) (c .before .before .before .if1 .left) _ (c .before .before .opened .ensures) _ (c .before .long-enough .ensures) (c .if2 .left)))
+    (λ c κs. open-small (c .before .before .args .start) (c .before .before .args .attributes) (c .before .before .args .shape) 0 0 _ (c .before .shape-allowed .ensures) (c .if1 .left))
+    (λ c. open-short _ _ _ _ _ _ (c .before .before .before .shape-allowed .ensures) (c .before .before .if1 .left) _ (c .before .long-enough .ensures) (c .if2 .taken))
+    (λ c. open-fine _ _ _ _ _ _ (c .before .before .before .shape-allowed .ensures) (c .before .before .if1 .left) _ (c .before .long-enough .ensures) (c .if2 .left)))

@@ -1,7 +1,7 @@
 -- `history::step::after_open` meets its contract. Assumes nothing.
 use borrow.Author.Needs.{needs}
 use Rattle.build.proofs.Trials.{refused}
-use Rattle.history.proofs.Records.{open-refused, open-done}
+use Rattle.history.proofs.Records.{keeps-open, opens-anew}
 use Rattle.history.proofs.step.after_open.Statement.{statement}
 use Rattle.history.proofs.step.after_open.Tie as tie
 
@@ -10,6 +10,6 @@ after-open-spec =
     tie.close
     (tie.spec
     (λ c. search needs)
-    (λ c. open-refused _ (c .before .args .a) (refused (c .before .args .a .refusal) (c .match .keys2)))
+    (λ c. keeps-open _ _ _ (refused (c .before .args .what) (c .match .keys2)))
     (λ c κs. search needs)
-    (λ c. open-done _ _ _ (c .before .enum-told .given .1) (c .after .ensures)))
+    (λ c. opens-anew _ _ _ _ (c .before .enum-told .given .1) (c .after .ensures)))

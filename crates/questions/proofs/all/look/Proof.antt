@@ -7,11 +7,11 @@ use native.Mathlib.Nat.{sub-zero}
 use native.Mathlib.Omega.{arith}
 use lib.ListN.{length}
 use Rattle.layout.specs.Layout.{entrySize}
-use Rattle.questions.specs.Walk.{allSound}
+use Rattle.walk.specs.Walk.{allSound}
 use Rattle.questions.specs.Table.{noteAll}
-use Rattle.questions.proofs.Broken.{false-is}
-use Rattle.questions.proofs.Entries.{sound-quark}
-use Rattle.questions.proofs.Walks.{sound-turn, sound-stop, sound-done}
+use Rattle.walk.proofs.Broken.{false-is}
+use Rattle.walk.proofs.Entries.{sound-quark}
+use Rattle.walk.proofs.Walks.{sound-turn, sound-stop, sound-done}
 use Rattle.questions.proofs.Tables.{length-note, all-turn, all-done}
 use Rattle.questions.proofs.all.look.Statement.{statement}
 use Rattle.questions.proofs.all.look.Tie as tie

@@ -10,8 +10,8 @@ use borrow.Author.Tests.{not-true, not-false}
 use Rattle.questions.specs.Single.{entryFine}
 use Rattle.questions.specs.Full.{everyQuark}
 use Rattle.questions.specs.Table.{begunFrom}
-use Rattle.questions.proofs.Room.{table-in}
-use Rattle.questions.proofs.Broken.{false-is}
+use Rattle.walk.proofs.Room.{table-in}
+use Rattle.walk.proofs.Broken.{false-is}
 use Rattle.questions.proofs.Tables.{length-begun, begun-turn, begun-done}
 use Rattle.questions.proofs.Fulls.{every-none, every-more, every-false, fine-at, fine-finished, begun-finished, begun-unfinished}
 use Rattle.questions.proofs.all.note_ongoing.Statement.{statement}

@@ -6,10 +6,10 @@ use mathlib.Core.Bool.{true}
 use native.Mathlib.Omega.{arith}
 use lib.ListN.{length}
 use borrow.Author.Tests.{not-true, not-false}
-use Rattle.questions.specs.Rules.{kept}
-use Rattle.questions.specs.Walk.{walk, walkOf}
+use Rattle.walk.specs.Rules.{kept}
+use Rattle.walk.specs.Walk.{walk, walkOf}
 use Rattle.questions.specs.Table.{foundFrom, foundAll}
-use Rattle.questions.proofs.Walks.{root-inside, root-well, root-few, step-keeps, walk-stop, walk-none, walk-turn, walk-root}
+use Rattle.walk.proofs.Walks.{root-inside, root-well, root-few, step-keeps, walk-stop, walk-none, walk-turn, walk-root}
 use Rattle.questions.proofs.Tables.{from-stop, from-none, from-turn, from-root}
 use Rattle.questions.proofs.all.walk_all.Statement.{statement}
 use Rattle.questions.proofs.all.walk_all.Tie as tie

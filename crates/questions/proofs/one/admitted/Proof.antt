@@ -2,7 +2,7 @@
 use borrow.Author.Needs.{needs}
 use mathlib.Core.Path.{refl}
 use Rattle.questions.proofs.Singles.{view-finished, view-unsound, view-table, view-walked}
-use Rattle.questions.proofs.Room.{table-in}
+use Rattle.walk.proofs.Room.{table-in}
 use Rattle.questions.proofs.one.admitted.Statement.{statement}
 use Rattle.questions.proofs.one.admitted.Tie as tie
 

@@ -7,10 +7,10 @@ use mathlib.Core.Bool.{true}
 use native.Mathlib.Nat.{sub-zero}
 use native.Mathlib.Omega.{arith}
 use Rattle.layout.specs.Layout.{entrySize}
-use Rattle.questions.specs.Walk.{allSound}
+use Rattle.walk.specs.Walk.{allSound}
 use Rattle.questions.specs.Found.{noted, look}
-use Rattle.questions.proofs.Broken.{false-is}
-use Rattle.questions.proofs.Walks.{sound-turn, sound-stop, sound-done}
+use Rattle.walk.proofs.Broken.{false-is}
+use Rattle.walk.proofs.Walks.{sound-turn, sound-stop, sound-done}
 use Rattle.questions.proofs.Finds.{noted-yes, noted-no, noted-other, look-turn, look-done}
 use Rattle.questions.proofs.one.look.Statement.{statement}
 use Rattle.questions.proofs.one.look.Tie as tie

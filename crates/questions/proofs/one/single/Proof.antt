@@ -1,11 +1,12 @@
 -- Each `return` cites the law of its way through `singleOf`. Assumes nothing.
 use borrow.Author.Needs.{needs}
-use Rattle.questions.proofs.Singles.{sound-top, sound-view, long-nodes, long-table, single-3, single-2, single-7, single-6, single-view}
+use Rattle.walk.proofs.Admitted.{sound-record, sound-view, long-nodes, long-table}
+use Rattle.questions.proofs.Singles.{single-3, single-2, single-7, single-6, single-view}
 use Rattle.questions.proofs.one.single.Statement.{statement}
 use Rattle.questions.proofs.one.single.Tie as tie
 
 view-of-requires : tie.Need-view-of-requires
-view-of-requires c κs = sound-top _ _ (c .before .sound .ensures) (c .if1 .left)
+view-of-requires c κs = sound-record _ _ (c .before .sound .ensures) (c .if1 .left)
 
 long-for-requires : tie.Need-long-for-requires
 long-for-requires c κs = let s = sound-view _ _ _ (c .before .before .sound .ensures) (c .before .if1 .left) (c .view-of .ensures) in (s .places, s .size)

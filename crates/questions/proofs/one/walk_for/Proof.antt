@@ -5,10 +5,10 @@ use mathlib.Core.Path.{_≡_, sym, _∙_}
 use mathlib.Core.Bool.{true}
 use native.Mathlib.Omega.{arith}
 use borrow.Author.Tests.{not-true, not-false}
-use Rattle.questions.specs.Rules.{kept}
-use Rattle.questions.specs.Walk.{walk, walkOf}
+use Rattle.walk.specs.Rules.{kept}
+use Rattle.walk.specs.Walk.{walk, walkOf}
 use Rattle.questions.specs.Found.{found, foundOf}
-use Rattle.questions.proofs.Walks.{root-inside, root-well, root-few, step-keeps, walk-stop, walk-none, walk-turn, walk-root}
+use Rattle.walk.proofs.Walks.{root-inside, root-well, root-few, step-keeps, walk-stop, walk-none, walk-turn, walk-root}
 use Rattle.questions.proofs.Finds.{found-stop, found-none, found-turn, found-root}
 use Rattle.questions.proofs.one.walk_for.Statement.{statement}
 use Rattle.questions.proofs.one.walk_for.Tie as tie

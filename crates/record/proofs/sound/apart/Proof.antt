@@ -1,20 +1,19 @@
 -- `record::sound::apart` meets its contract: what is left from the level reached is the whole. Assumes nothing.
-use Prim.Native.Nat.{_≤_, _-_}
+use Prim.Native.Nat.{_≤_, _+_, _-_}
 use mathlib.Core.Path.{_≡_}
-use mathlib.Core.List.{[]}
 use native.Mathlib.Omega.{arith}
 use borrow.Author.Needs.{needs}
-use Rattle.record.specs.Levels.{counted}
+use Rattle.record.specs.Record.{branchOf}
 use Rattle.record.specs.Sound.{apart}
 use Rattle.record.proofs.Runs.{apartFrom, apart-begin, apart-fail, apart-turn, apart-end}
 use Rattle.record.proofs.sound.apart.Statement.{statement}
 use Rattle.record.proofs.sound.apart.Tie as tie
 
 abbrev Inv-loop : tie.InvT-loop
-Inv-loop level n places i place j₀ j = (j ≤ n) × (apartFrom (counted places [] []) level n j ≡ apart (counted places [] []) level n)
+Inv-loop h level top place above₀ above = (above ≤ top + 1) × (apartFrom (branchOf h) level top above ≡ apart (branchOf h) level (top - level))
 
 abbrev μ-loop : tie.MeasureT-loop
-μ-loop level n places i place j₀ j = n - j
+μ-loop h level top place above₀ above = top + 1 - above
 
 pub apart-spec : {M : Type 1} → statement M
 apart-spec =
@@ -22,10 +21,8 @@ apart-spec =
     (tie.spec Inv-loop μ-loop
     (λ c. search needs)
     (λ c. search needs)
+    (λ c. search needs)
     (λ c. (search needs, apart-begin _ _ _))
-    (λ c. search needs)
-    (λ c. search needs)
-    (λ c. search needs)
     (λ c. search needs)
     (λ c. search needs)
     (λ c. search apart-fail)

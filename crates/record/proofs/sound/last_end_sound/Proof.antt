@@ -1,6 +1,5 @@
 -- `record::sound::last_end_sound` meets its contract: the same tests. Assumes nothing.
 use mathlib.Core.Path.{refl}
-use borrow.Author.Needs.{needs}
 use Rattle.record.proofs.sound.last_end_sound.Statement.{statement}
 use Rattle.record.proofs.sound.last_end_sound.Tie as tie
 

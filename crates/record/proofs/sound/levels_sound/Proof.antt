@@ -2,19 +2,20 @@
 use Prim.Native.Nat.{_≤_, _-_, _+_}
 use mathlib.Core.Path.{_≡_, refl}
 use native.Mathlib.Omega.{arith}
+use lib.ListN.{getD}
 use borrow.Author.Needs.{needs}
-use Rattle.record.specs.Levels.{counted}
+use Rattle.record.specs.Record.{branchOf}
 use Rattle.record.specs.Sound.{levelsSound}
 use Rattle.record.proofs.Runs.{level-fails, places-fail, levels-turn, levels-end}
 use Rattle.record.proofs.sound.levels_sound.Statement.{statement}
 use Rattle.record.proofs.sound.levels_sound.Tie as tie
 
 abbrev Inv-loop : tie.InvT-loop
-Inv-loop places intervals children s used low top level₀ level =
-    (level ≤ top + 1) × (levelsSound (counted places intervals children) s used level top ≡ levelsSound (counted places intervals children) s used low top)
+Inv-loop h s low top level₀ level =
+    (level ≤ top + 1) × (levelsSound (branchOf h) s (getD h 84 0) level top ≡ levelsSound (branchOf h) s (getD h 84 0) low top)
 
 abbrev μ-loop : tie.MeasureT-loop
-μ-loop places intervals children s used low top level₀ level = top + 1 - level
+μ-loop h s low top level₀ level = top + 1 - level
 
 pub levels-sound-spec : {M : Type 1} → statement M
 levels-sound-spec =
@@ -22,13 +23,13 @@ levels-sound-spec =
     (tie.spec Inv-loop μ-loop
     (λ c. (search needs, refl))
     (λ c κs. search needs)
-    (λ c. level-fails (counted _ _ _) _ _ _ _ _ (c .before .before .before .loop .inv .1) (c .before .before .loop-test .taken) _ (c .before .level-sound .ensures) (c .if1 .taken))
+    (λ c. level-fails (branchOf _) _ _ _ _ _ (c .before .before .before .loop .inv .1) (c .before .before .loop-test .taken) _ (c .before .level-sound .ensures) (c .if1 .taken))
     (λ c κs. search needs)
-    (λ c. places-fail (counted _ _ _) _ _ _ _ _ (c .before .before .before .before .before .loop .inv .1) (c .before .before .before .before .loop-test .taken) _ (c .before .before .before .level-sound .ensures) (c .before .before .if1 .left) _ (c .before .apart .ensures) (c .if2 .taken))
+    (λ c. places-fail (branchOf _) _ _ _ _ _ (c .before .before .before .before .before .loop .inv .1) (c .before .before .before .before .loop-test .taken) _ (c .before .before .before .level-sound .ensures) (c .before .before .if1 .left) _ (c .before .apart .ensures) (c .if2 .taken))
     (λ c. search needs)
     (λ c. search needs)
     (λ c. (
       omega arith,
-      levels-turn (counted _ _ _) _ _ _ _ _ (c .before .before .before .before .before .loop .inv .1) (c .before .before .before .before .loop-test .taken) _ (c .before .before .before .level-sound .ensures) (c .before .before .if1 .left) _ (c .before .apart .ensures) (c .if2 .left),
+      levels-turn (branchOf _) _ _ _ _ _ (c .before .before .before .before .before .loop .inv .1) (c .before .before .before .before .loop-test .taken) _ (c .before .before .before .level-sound .ensures) (c .before .before .if1 .left) _ (c .before .apart .ensures) (c .if2 .left),
     ))
     (λ c. search levels-end))

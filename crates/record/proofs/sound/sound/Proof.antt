@@ -6,4 +6,4 @@ use Rattle.record.proofs.sound.sound.Statement.{statement}
 use Rattle.record.proofs.sound.sound.Tie as tie
 
 pub sound-spec : {M : Type 1} → statement M
-sound-spec = tie.close (tie.spec (λ c κs. search needs) (λ c. search sound-ways) (λ c κs. search needs) (λ c. search sound-ways) (λ c κs. search top-small) (λ c. search sound-ways))
+sound-spec = tie.close (tie.spec (λ c κs. search needs) (λ c. search sound-ways) (λ c κs. search needs) (λ c. search sound-ways) (λ c κs. top-small _ _ (c .before .numbers-sound .ensures) (c .if2 .left)) (λ c. search sound-ways))

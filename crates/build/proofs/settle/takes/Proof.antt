@@ -1,0 +1,22 @@
+-- `build::settle::takes` meets its contract. Assumes nothing.
+use borrow.Author.Needs.{needs}
+use Rattle.record.proofs.Lies.{intervals-lie, last-end-lies}
+use Rattle.build.specs.Settle.{taken}
+use Rattle.build.proofs.settle.takes.Statement.{statement}
+use Rattle.build.proofs.settle.takes.Tie as tie
+
+pub takes-spec : {M : Type 1} → statement M
+unfolding taken
+takes-spec =
+    tie.close
+    (tie.spec
+    (λ c. search needs)
+    (λ c. search needs)
+    (λ c. search needs)
+    (λ c. search needs)
+    (λ c. let a = c .before .before .before in simp (last-end-lies (a .args .h .now) (a .args .level) (a .pre), c .if1 .taken))
+    (λ c. search needs)
+    (λ c. search needs)
+    (λ c. search needs)
+    (λ c. search needs)
+    (λ c. let a = c .before .before .before .before .before in simp (last-end-lies (a .args .h .now) (a .args .level) (a .pre), intervals-lie (a .args .h .now) (a .args .level) (a .pre), c .before .before .if1 .left)))

@@ -1,0 +1,6 @@
+pub mod Room
+pub mod Broken
+pub mod Entries
+pub mod Ways
+pub mod Walks
+pub mod Admitted
