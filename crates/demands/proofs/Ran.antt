@@ -13,16 +13,16 @@ use Rattle.demands.proofs.Kept.{refused-keeps}
 
 -- ---- cut short
 
-one-cut : (done todo : List Call) (σ : State) → One (done ++ todo) σ → One done σ
-one-cut [] todo σ a = tt
-one-cut (c ∷ done) todo σ a = (a .0, one-cut done todo (step c σ .0) (a .1))
+one-cut : (done rest : List Call) (σ : State) → One (done ++ rest) σ → One done σ
+one-cut [] rest σ a = tt
+one-cut (c ∷ done) rest σ a = (a .0, one-cut done rest (step c σ .0) (a .1))
 
-fit-cut : (done todo : List Call) → AllFit (done ++ todo) → AllFit done
-fit-cut [] todo a = tt
-fit-cut (c ∷ done) todo a = (a .0, fit-cut done todo (a .1))
+fit-cut : (done rest : List Call) → AllFit (done ++ rest) → AllFit done
+fit-cut [] rest a = tt
+fit-cut (c ∷ done) rest a = (a .0, fit-cut done rest (a .1))
 
 pub each-call : EachCall
-each-call s done todo e = (
+each-call s done rest e = (
   record {
     before = s .before;
     start = s .start;
@@ -30,8 +30,8 @@ each-call s done todo e = (
     shape = s .shape;
     calls = done;
     accepted = s .accepted;
-    one = one-cut done todo (first s) (subst (λ (cs : List Call). One cs (first s)) e (s .one));
-    fit = fit-cut done todo (subst AllFit e (s .fit));
+    one = one-cut done rest (first s) (subst (λ (cs : List Call). One cs (first s)) e (s .one));
+    fit = fit-cut done rest (subst AllFit e (s .fit));
   },
   refl,
   refl,
@@ -140,9 +140,9 @@ module _ (σ : State) (b : σ .begun ≡ false) where
       go false f (inl a) = inl (run-more cs c σ ∙ (idle c (run cs σ) (ap (λ (x : State). x .begun) a ∙ b) f ∙ a))
       go false f (inr l) = inr (longer cs σ c fit l f)
 
-  all-more : (todo done : List Call) → AllFit todo → Ever σ done → Ever σ (done ++ todo)
+  all-more : (rest done : List Call) → AllFit rest → Ever σ done → Ever σ (done ++ rest)
   all-more [] done fit e = subst (Ever σ) (sym (append-nil done)) e
-  all-more (c ∷ todo) done fit e = subst (Ever σ) (append-assoc done (c ∷ []) todo) (all-more todo (done ++ c ∷ []) (fit .1) (more done c (fit .0) e))
+  all-more (c ∷ rest) done fit e = subst (Ever σ) (append-assoc done (c ∷ []) rest) (all-more rest (done ++ c ∷ []) (fit .1) (more done c (fit .0) e))
 
 pub every-run : EveryRun
 unfolding run
