@@ -217,7 +217,7 @@ pub record Demand2 : Type 0 where
 
 -- "After each call": what a sequence had done after some of its calls was a sequence too, so what is said of all sequences is said after each call.
 abbrev pub EachCall : Type 0
-EachCall = (s : Sequence) (done todo : List Call) → s .calls ≡ done ++ todo → (r : Sequence) × (first r ≡ first s) × (r .calls ≡ done)
+EachCall = (s : Sequence) (done rest : List Call) → s .calls ≡ done ++ rest → (r : Sequence) × (first r ≡ first s) × (r .calls ≡ done)
 
 -- "the used nodes are exactly those the build rule makes afresh from the accepted calls"
 pub record Rebuilt (s : Sequence) : Type 0 where
