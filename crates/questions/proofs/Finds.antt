@@ -12,7 +12,6 @@ use Rattle.layout.specs.declared.Header.{Header}
 use Rattle.layout.specs.Layout.{entrySize, nodeSize, entryAt, readHeader, readEntry}
 use Rattle.walk.specs.declared.View.{View}
 use Rattle.walk.specs.declared.Walk.{Walk}
-use Rattle.walk.specs.declared.Rule.{Rule}
 use Rattle.walk.specs.View.{Roomy}
 use Rattle.walk.specs.Rules.{broken, kept, covers}
 use Rattle.walk.specs.Walk.{placeOf, rootOf, step}
@@ -59,42 +58,12 @@ module _ (l : List ℕ) (q t p n i s : ℕ) where
   unfolding look
   look-done le = let z : n - i ≡ 0 = omega arith in ap (λ (k : ℕ). look l q t p k s) z
 
-module _ (l : List ℕ) (v : View) (q t level p : ℕ) (h : Header) (w : Walk) (s : ℕ) (rule : Rule) (x : Bool)
-    (at : p ≡ placeOf v (w .place)) (reads : h ≡ readHeader l p) (is : rule ≡ broken v w level h) (good : x ≡ kept rule) where
-  stands : lookIn l v q t level h p w s ≡ lookAt l v q t level w s
-  unfolding lookAt
-  stands =
-      let f : h ≡ readHeader l (placeOf v (w .place)) = reads ∙ ap (readHeader l) at in
-      ap (λ (k : ℕ). lookIn l v q t level h k w s) at ∙ ap (λ (y : Header). lookIn l v q t level y (placeOf v (w .place)) w s) f
+-- ---- a walk that has ended
 
-  pub look-node : (first r : ℕ) → not x ≡ false → first ≡ entryAt (v .shape) 0 → r ≡ look l q t (p + first) (h .intervals) s → r ≡ lookAt l v q t level w s
-  unfolding lookIn
-  look-node first r n from e = (rw (← is, ← good, not-false x n, ← from) e) ∙ stands
-
--- ---- the loop
-
-module _ (l : List ℕ) (v : View) (q t : ℕ) where
-  pub found-stop : (n : ℕ) (w : Walk) (s : ℕ) → w .go ≡ false → s ≡ found l v q t n w s
-  unfolding found
-  found-stop zero w s e = refl
-  found-stop (suc n) w s e = sym (ap (λ (b : Bool). cond b (found l v q t n (step l v t n w) (lookAt l v q t n w s)) s) e)
-
-  pub found-none : (n : ℕ) (w : Walk) (s : ℕ) → n ≡ 0 → s ≡ found l v q t n w s
-  unfolding found
-  found-none n w s e = rw e
-
-  pub found-turn : (n : ℕ) (w r : Walk) (s s′ : ℕ) → 0 < n → w .go ≡ true → r ≡ step l v t (n - 1) w → s′ ≡ lookAt l v q t (n - 1) w s → found l v q t n w s ≡ found l v q t (n - 1) r s′
-  unfolding found
-  found-turn n w r s s′ z g p h =
-      let e : n ≡ suc (n - 1) = omega arith in
-      ap (λ (k : ℕ). found l v q t k w s) e
-      ∙ ap (λ (b : Bool). cond b (found l v q t (n - 1) (step l v t (n - 1) w) (lookAt l v q t (n - 1) w s)) s) g
-      ∙ ap (λ (x : Walk). found l v q t (n - 1) x (lookAt l v q t (n - 1) w s)) (sym p)
-      ∙ ap (λ (x : ℕ). found l v q t (n - 1) r x) (sym h)
-
-  pub found-root : (w : Walk) → w ≡ rootOf v → foundOf l v q t ≡ found l v q t (v .level + 1) w 0
-  unfolding foundOf
-  found-root w e = ap (λ (x : Walk). found l v q t (v .level + 1) x 0) (sym e)
+pub found-stop : (l : List ℕ) (v : View) (q t n : ℕ) (w : Walk) (s : ℕ) → w .go ≡ false → s ≡ found l v q t n w s
+unfolding found
+found-stop l v q t zero w s e = refl
+found-stop l v q t (suc n) w s e = sym (ap (λ (b : Bool). cond b (found l v q t n (step l v t n w) (lookAt l v q t n w s)) s) e)
 
 -- ---- R7
 

@@ -17,7 +17,6 @@ use Rattle.record.specs.declared.Refusal.the-variants.{Nothing, Damaged}
 use Rattle.transient.specs.declared.Ongoing.{Ongoing}
 use Rattle.transient.specs.Transient.{tableAt, ongoingEnd, ongoingAt, ongoingSound, interval}
 use Rattle.walk.specs.declared.View.{View}
-use Rattle.walk.specs.declared.Walk.{Walk}
 use Rattle.questions.specs.declared.Full.{Full}
 use Rattle.walk.specs.View.{Roomy}
 use Rattle.walk.specs.Rules.{kept}
@@ -120,10 +119,9 @@ module _ (nodes table xs : List ℕ) (n i p : ℕ) (b : List ℕ) where
 
 -- ---- the table against the promise
 
--- the table after the ongoing states and the walk; k: it broke no rule
-pub all-found : (l : List ℕ) (v : View) (t : ℕ) (table zs ys xs : List ℕ) (x y k : Bool) → (x ≡ true → ys ≡ allBegun v t table zs) → not x ≡ false → (k ≡ true → xs ≡ foundAll l v t ys) → y ≡ k
-    → not y ≡ false → xs ≡ foundAll l v t (allBegun v t table zs)
-all-found l v t table zs ys xs x y k begins n finds good m = finds (sym good ∙ not-false y m) ∙ ap (foundAll l v t) (begins (not-false x n))
+-- the table after the ongoing states and the walk
+pub all-found : (l : List ℕ) (v : View) (t : ℕ) (table zs ys xs : List ℕ) (x : Bool) → (x ≡ true → ys ≡ allBegun v t table zs) → not x ≡ false → xs ≡ foundAll l v t ys → xs ≡ foundAll l v t (allBegun v t table zs)
+all-found l v t table zs ys xs x begins n finds = finds ∙ ap (foundAll l v t) (begins (not-false x n))
 
 -- the table answers only until finish
 pub from-going : (v : View) (t q : ℕ) (table : List ℕ) → fromTable v t q table ≡ true → v .finished ≡ false
@@ -253,19 +251,19 @@ module _ (v : View) (t : ℕ) (l table : List ℕ) (at : ℕ) (b : List ℕ) (r 
     unfolding walkedRefusal
     full-entry n e = damaged (rw (← fine, not-true a n)) e
 
-    module _ (n : not a ≡ false) (w : Walk) (x : Bool) (walks : w ≡ walkOf l v t) (good : x ≡ kept (w .rule)) where
-      pub full-walk : not x ≡ true → r ≡ refusedFull Damaged → Outcome v t l table at b r b
+    module _ (n : not a ≡ false) where
+      pub full-walk : kept (walkOf l v t .rule) ≡ false → r ≡ refusedFull Damaged → Outcome v t l table at b r b
       unfolding walkedRefusal
-      full-walk m e = damaged (rw (← fine, not-false a n, ← walks, ← good, not-true x m)) e
+      full-walk k e = damaged (rw (← fine, not-false a n, k)) e
 
-      module _ (m : not x ≡ false) (y : Bool) (alones : y ≡ everyQuark (alone v t l table) (v .attributes)) where
+      module _ (k : kept (walkOf l v t .rule) ≡ true) (y : Bool) (alones : y ≡ everyQuark (alone v t l table) (v .attributes)) where
         pub full-many : not y ≡ true → r ≡ refusedFull Damaged → Outcome v t l table at b r b
         unfolding walkedRefusal
-        full-many k e = damaged (rw (← fine, not-false a n, ← walks, ← good, not-false x m, ← alones, not-true y k)) e
+        full-many m e = damaged (rw (← fine, not-false a n, k, ← alones, not-true y m)) e
 
-        pub full-told : (c : List ℕ) → not y ≡ false → (e : List ℕ) → c ≡ sets b at e → e ≡ fullEntries v t l table 0 (v .attributes) → r ≡ record { refusal = Nothing; nodes = w .entered }
+        pub full-told : (c : List ℕ) → not y ≡ false → (e : List ℕ) → c ≡ sets b at e → e ≡ fullEntries v t l table 0 (v .attributes) → (d : ℕ) → d ≡ walkOf l v t .entered → r ≡ record { refusal = Nothing; nodes = d }
             → Outcome v t l table at b r c
         unfolding walkedRefusal walkedFull walkedWritten
-        full-told c k e g same f =
-            let z : walkedRefusal v t l table ≡ Nothing = rw (← fine, not-false a n, ← walks, ← good, not-false x m, ← alones, not-false y k) in
-            (rw (z, ← walks) f, rw z (g ∙ ap (sets b at) same))
+        full-told c m e g same d enters f =
+            let z : walkedRefusal v t l table ≡ Nothing = rw (← fine, not-false a n, k, ← alones, not-false y m) in
+            (rw (z, ← enters) f, rw z (g ∙ ap (sets b at) same))

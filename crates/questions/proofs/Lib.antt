@@ -2,5 +2,6 @@ pub mod Finds
 pub mod Singles
 pub mod After
 pub mod Tables
+pub mod Along
 pub mod Fulls
 pub mod Heads

@@ -17,7 +17,6 @@ use Rattle.record.specs.Sound.{sound, longEnough}
 use Rattle.transient.specs.declared.Ongoing.{Ongoing}
 use Rattle.transient.specs.Transient.{ongoingEnd, ongoingAt, ongoingSound, interval}
 use Rattle.walk.specs.declared.View.{View}
-use Rattle.walk.specs.declared.Walk.{Walk}
 use Rattle.questions.specs.declared.Single.{Single}
 use Rattle.walk.specs.View.{viewOf, longFor, asked}
 use Rattle.walk.specs.Rules.{kept}
@@ -28,23 +27,20 @@ use Rattle.walk.proofs.Admitted.{long-same}
 
 -- ---- the walk and R7
 
-module _ (v : View) (t q : ℕ) (l : List ℕ) (w : Walk) (s : ℕ) (x : Bool) (walks : w ≡ walkOf l v t) (finds : kept (w .rule) ≡ true → s ≡ foundOf l v q t) (good : x ≡ kept (w .rule)) (r : Single) where
-  pub walked-damaged : not x ≡ true → r ≡ refusedSingle Damaged → r ≡ walkedSingle v t q l
+module _ (v : View) (t q : ℕ) (l : List ℕ) (r : Single) where
+  pub walked-damaged : kept (walkOf l v t .rule) ≡ false → r ≡ refusedSingle Damaged → r ≡ walkedSingle v t q l
   unfolding walkedSingle told
-  walked-damaged n e = rw (← walks, ← good, not-true x n) e
+  walked-damaged k e = rw k e
 
-  module _ (y : Bool) (one : y ≡ shown s) (n : not x ≡ false) where
-    is-found : s ≡ foundOf l v q t
-    is-found = finds (sym good ∙ not-false x n)
-
-    pub walked-none : not y ≡ true → r ≡ refusedSingle Damaged → r ≡ walkedSingle v t q l
+  module _ (s : ℕ) (x : Bool) (k : kept (walkOf l v t .rule) ≡ true) (finds : s ≡ foundOf l v q t) (one : x ≡ shown s) where
+    pub walked-none : not x ≡ true → r ≡ refusedSingle Damaged → r ≡ walkedSingle v t q l
     unfolding walkedSingle told
-    walked-none m e = rw (← walks, ← good, not-false x n, ← is-found, ← one, not-true y m) e
+    walked-none m e = rw (k, ← finds, ← one, not-true x m) e
 
-    pub walked-told : (a : Entry) → not y ≡ false → a ≡ readEntry l (s - 1) → r ≡ record { refusal = Nothing; nodes = w .entered; entry = a } → r ≡ walkedSingle v t q l
+    pub walked-told : (n : ℕ) (a : Entry) → not x ≡ false → n ≡ walkOf l v t .entered → a ≡ readEntry l (s - 1) → r ≡ record { refusal = Nothing; nodes = n; entry = a } → r ≡ walkedSingle v t q l
     unfolding walkedSingle told toldEntry
-    walked-told a m reads e =
-        rw (← walks, ← good, not-false x n, ← is-found, ← one, not-false y m) (e ∙ ap (λ (z : Entry). record { refusal = Nothing; nodes = w .entered; entry = z }) reads)
+    walked-told n a m enters reads e =
+        rw (k, ← finds, ← one, not-false x m, ← enters) (e ∙ ap (λ (z : Entry). record { refusal = Nothing; nodes = n; entry = z }) reads)
 
 -- where the walk tells, its answer is what the question says
 walked-view : (v : View) (t q : ℕ) (l table : List ℕ) → entryFine v q table ≡ true → fromTable v t q table ≡ false → walkedSingle v t q l ≡ viewSingle v t q l table

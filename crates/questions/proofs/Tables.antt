@@ -1,40 +1,42 @@
 -- The full question's table: turn by turn, and that it says of each quark what a single's walk finds. Assumes nothing.
 use Prim.Native.Nat.{ℕ, zero, suc, _+_, _-_, _≤_, _<_}
 use mathlib.Core.Path.{_≡_, refl, sym, ap, subst, _∙_}
-use mathlib.Core.Bool.{Bool, true, false, cond, not, _&&_}
+use mathlib.Core.Bool.{Bool, true, false, cond, _&&_}
 use mathlib.Core.List.{List}
 use native.Mathlib.Omega.{arith}
 use lib.Dec.{leb, eqb}
 use lib.ListN.{length, getD, set, length-set}
 use lib.Seq.{getD-set-same, getD-set-other}
-use borrow.Author.Tests.{eqb-true, eqb-false, le-leb, lt-leb, not-false}
+use borrow.Author.Tests.{eqb-true, eqb-false, le-leb, lt-leb}
 use Rattle.layout.specs.declared.Entry.{Entry}
-use Rattle.layout.specs.declared.Header.{Header}
 use Rattle.layout.specs.Layout.{entrySize, entryAt, readHeader, readEntry}
 use Rattle.transient.specs.declared.Ongoing.{Ongoing}
 use Rattle.transient.specs.Transient.{ongoingAt}
 use Rattle.walk.specs.declared.View.{View}
 use Rattle.walk.specs.declared.Walk.{Walk}
-use Rattle.walk.specs.declared.Rule.{Rule}
 use Rattle.walk.specs.Rules.{broken, kept, covers}
-use Rattle.walk.specs.Walk.{placeOf, rootOf, step}
+use Rattle.walk.specs.Walk.{placeOf, step}
 use Rattle.questions.specs.Found.{more, noted, look, lookIn, lookAt, found}
-use Rattle.questions.specs.Table.{ongoing, begun, begunFrom, note, noteAll, noteIn, noteAt, foundFrom, foundAll}
+use Rattle.questions.specs.Table.{ongoing, begun, begunFrom, noteIf, note, noteAll, noteIn, noteAt, foundFrom}
 
 -- ---- an entry is noted
 
-module _ (t p : ℕ) (e : Entry) (xs : List ℕ) where
-  module _ (b : Bool) (is : b ≡ covers t e) where
-    pub note-yes : (r : ℕ) → b ≡ true → r ≡ more (getD xs (e .quark .0) 0) p → set xs (e .quark .0) r ≡ note t p e xs
-    unfolding note
-    note-yes r h g = rw (← is, h, ← g)
+module _ (p : ℕ) (e : Entry) (xs : List ℕ) (a b : Bool) (is : b ≡ a) where
+  pub note-yes : (r : ℕ) → b ≡ true → r ≡ more (getD xs (e .quark .0) 0) p → set xs (e .quark .0) r ≡ noteIf a p e xs
+  unfolding noteIf
+  note-yes r h g = rw (← is, h, ← g)
 
-    pub note-no : b ≡ false → xs ≡ note t p e xs
-    unfolding note
-    note-no h = rw (← is, h)
+  pub note-no : b ≡ false → xs ≡ noteIf a p e xs
+  unfolding noteIf
+  note-no h = rw (← is, h)
+
+module _ (t p : ℕ) (e : Entry) (xs : List ℕ) where
+  pub note-told : (a : Bool) (ys : List ℕ) → a ≡ covers t e → ys ≡ noteIf a p e xs → ys ≡ note t p e xs
+  unfolding note
+  note-told a ys is gives = gives ∙ ap (λ (b : Bool). noteIf b p e xs) is
 
   pub length-note : length (note t p e xs) ≡ length xs
-  unfolding note
+  unfolding note noteIf
   length-note = go (covers t e)
     where
       go : (b : Bool) → length (cond b (set xs (e .quark .0) (more (getD xs (e .quark .0) 0) p)) xs) ≡ length xs
@@ -42,7 +44,7 @@ module _ (t p : ℕ) (e : Entry) (xs : List ℕ) where
       go false = refl
 
   note-at : (q : ℕ) → q < length xs → getD (note t p e xs) q 0 ≡ noted q t p e (getD xs q 0)
-  unfolding note noted
+  unfolding note noteIf noted
   note-at q h = go (covers t e) (eqb (e .quark .0) q) refl
     where
       go : (a d : Bool) → eqb (e .quark .0) q ≡ d → getD (cond a (set xs (e .quark .0) (more (getD xs (e .quark .0) 0) p)) xs) q 0 ≡ cond (d && a) (more (getD xs q 0) p) (getD xs q 0)
@@ -81,18 +83,6 @@ all-at l q t p (suc n) xs h =
 
 -- ---- a node
 
-module _ (l : List ℕ) (v : View) (t level p : ℕ) (h : Header) (w : Walk) (xs : List ℕ) (rule : Rule) (x : Bool)
-    (at : p ≡ placeOf v (w .place)) (reads : h ≡ readHeader l p) (is : rule ≡ broken v w level h) (good : x ≡ kept rule) where
-  stands : noteIn l v t level h p w xs ≡ noteAt l v t level w xs
-  unfolding noteAt
-  stands =
-      let f : h ≡ readHeader l (placeOf v (w .place)) = reads ∙ ap (readHeader l) at in
-      ap (λ (k : ℕ). noteIn l v t level h k w xs) at ∙ ap (λ (y : Header). noteIn l v t level y (placeOf v (w .place)) w xs) f
-
-  pub node-notes : (first : ℕ) (ys : List ℕ) → not x ≡ false → first ≡ entryAt (v .shape) 0 → ys ≡ noteAll l t (p + first) (h .intervals) xs → ys ≡ noteAt l v t level w xs
-  unfolding noteIn
-  node-notes first ys n from e = (rw (← is, ← good, not-false x n, ← from) e) ∙ stands
-
 module _ (l : List ℕ) (v : View) (t level : ℕ) (w : Walk) (xs : List ℕ) where
   length-node : length (noteAt l v t level w xs) ≡ length xs
   unfolding noteAt noteIn
@@ -123,23 +113,6 @@ module _ (l : List ℕ) (v : View) (t : ℕ) where
   unfolding foundFrom
   from-stop zero w xs e = refl
   from-stop (suc n) w xs e = sym (ap (λ (b : Bool). cond b (foundFrom l v t n (step l v t n w) (noteAt l v t n w xs)) xs) e)
-
-  pub from-none : (n : ℕ) (w : Walk) (xs : List ℕ) → n ≡ 0 → xs ≡ foundFrom l v t n w xs
-  unfolding foundFrom
-  from-none n w xs e = rw e
-
-  pub from-turn : (n : ℕ) (w r : Walk) (xs ys : List ℕ) → 0 < n → w .go ≡ true → r ≡ step l v t (n - 1) w → ys ≡ noteAt l v t (n - 1) w xs → foundFrom l v t n w xs ≡ foundFrom l v t (n - 1) r ys
-  unfolding foundFrom
-  from-turn n w r xs ys z g p h =
-      let e : n ≡ suc (n - 1) = omega arith in
-      ap (λ (k : ℕ). foundFrom l v t k w xs) e
-      ∙ ap (λ (b : Bool). cond b (foundFrom l v t (n - 1) (step l v t (n - 1) w) (noteAt l v t (n - 1) w xs)) xs) g
-      ∙ ap (λ (x : Walk). foundFrom l v t (n - 1) x (noteAt l v t (n - 1) w xs)) (sym p)
-      ∙ ap (λ (x : List ℕ). foundFrom l v t (n - 1) r x) (sym h)
-
-  pub from-root : (w : Walk) (xs : List ℕ) → w ≡ rootOf v → foundAll l v t xs ≡ foundFrom l v t (v .level + 1) w xs
-  unfolding foundAll
-  from-root w xs e = ap (λ (x : Walk). foundFrom l v t (v .level + 1) x xs) (sym e)
 
   -- the table says of each quark what a single's walk finds
   pub found-all-at : (q n : ℕ) (w : Walk) (xs : List ℕ) → q < length xs → getD (foundFrom l v t n w xs) q 0 ≡ found l v q t n w (getD xs q 0)

@@ -1,7 +1,7 @@
 -- How the full question goes about it: one table for all quarks along one walk. The promise does not speak of it: a law ties it to what is found for each quark.
 use Prim.Native.Nat.{ℕ, zero, suc, _+_, _-_, _≤_, _<_}
 use mathlib.Core.Path.{_≡_}
-use mathlib.Core.Bool.{cond}
+use mathlib.Core.Bool.{Bool, cond}
 use mathlib.Core.List.{List, [], _++_}
 use lib.Dec.{leb, eqb}
 use lib.ListN.{length, getD, set}
@@ -35,9 +35,12 @@ allBegun v t table xs = cond (v .finished) xs (begunFrom table t 0 (v .attribute
 
 -- ═══ The walk ═══
 
--- an entry at byte p is noted for its quark
+-- an entry at byte p is noted for its quark, if at all
+unfoldable pub noteIf : Bool → ℕ → Entry → List ℕ → List ℕ
+noteIf b p e xs = cond b (set xs (e .quark .0) (more (getD xs (e .quark .0) 0) p)) xs
+
 unfoldable pub note : ℕ → ℕ → Entry → List ℕ → List ℕ
-note t p e xs = cond (covers t e) (set xs (e .quark .0) (more (getD xs (e .quark .0) 0) p)) xs
+note t p e xs = noteIf (covers t e) p e xs
 
 -- the n entries from byte p on
 unfoldable pub noteAll : List ℕ → ℕ → ℕ → ℕ → List ℕ → List ℕ

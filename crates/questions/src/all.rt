@@ -6,26 +6,26 @@ use layout::Header;
 use layout::Quark;
 use layout::Shape;
 use record::Refusal;
-use walk::Rule;
 use walk::View;
-use walk::Walk;
 use walk::known;
 use walk::rules;
 use walk::steps;
 ghost use mathlib.Core.Path.{_≡_};
 ghost use mathlib.Core.Bool.{true, false};
 ghost use Prim.Native.Nat.{ℕ, _+_, _*_, _/_, _≤_, _<_};
-ghost use lib.ListN.{length, getD};
+ghost use lib.ListN.{length, getD, take};
 ghost use lib.Seq.{sets};
 ghost use Rattle.layout.specs.Layout.{entrySize};
 ghost use Rattle.record.specs.Record.{recordOf};
 ghost use Rattle.walk.specs.View.{Roomy};
-ghost use Rattle.walk.specs.Rules.{kept};
-ghost use Rattle.walk.specs.Walk.{allSound, step, walkOf};
+ghost use Rattle.walk.specs.Since.{reaches};
+ghost use Rattle.walk.specs.Walk.{allSound};
+ghost use Rattle.walk.specs.Way.{soundAlong, Stands};
 ghost use Rattle.questions.specs.Found.{shown};
+ghost use Rattle.questions.specs.Along.{noteAlong};
 ghost use Rattle.questions.specs.Single.{entryFine};
 ghost use Rattle.questions.specs.Full.{everyQuark, refusedFull, walkedFull, walkedWritten, fullOf, fullWritten};
-ghost use Rattle.questions.specs.Table.{note, noteAll, noteAt, foundAll, begun, allBegun, entryFor, entriesFrom, Readable};
+ghost use Rattle.questions.specs.Table.{noteIf, noteAll, begun, allBegun, entryFor, entriesFrom, Readable};
 
 // What was found for each quark: 0 nothing, p + 1 the one entry at byte p, ONGOING its ongoing state, one::MANY more than one.
 const ONGOING: u32 = 0xffff_fffe;
@@ -39,18 +39,18 @@ fn refused(r: Refusal) -> Full
     }
 }
 
-// An entry at byte p that covers t is noted for its quark.
-fn note(found: &mut [u32], t: u64, p: usize, e: Entry)
+// An entry at byte p that covers t, counted from `start` on, is noted for its quark.
+fn note(found: &mut [u32], start: u64, t: u64, p: usize, e: Entry)
     requires { ⌜ (p + entrySize ≤ 4294967296) × (e .quark .0 < length (now found)) ⌝ }
-    ensures { λ _. ⌜ now (found .exit) ≡ note t p e (now (found .entry)) ⌝ }
+    ensures { λ _. ⌜ now (found .exit) ≡ noteIf (reaches start t e) p e (now (found .entry)) ⌝ }
 {
-    if rules::covers(t, e) {
+    if rules::reaches(start, t, e) {
         let q = e.quark.0 as usize;
         found[q] = one::more(found[q], p);
     }
 }
 
-// Each of a node's entries is read once, for R6 and for its quark, up to the first that breaks R6: what was noted matters only where none does.
+// Each of a node's entries is read once, for R6 and for its quark, up to the first that does not fit; the kinds and the nulls' values are tested at the end, for all of them at once. What was noted matters only where none breaks R6.
 fn look(
     nodes: &[u8],
     attributes: u32,
@@ -60,55 +60,46 @@ fn look(
     n: u32,
     found: &mut [u32],
 ) -> bool
-    requires { ⌜ (at + entrySize * n ≤ length (now nodes)) × (at + entrySize * n ≤ 4294967296) × (attributes ≤ length (now found)) ⌝ }
+    requires { ⌜ (at + entrySize * n ≤ length (now nodes)) × (at + entrySize * n ≤ 4294967296) × (attributes ≤ length (now found)) × (h .start ≤ h .end) ⌝ }
     ensures { λ r. ⌜ (r ≡ allSound (now (nodes .entry)) attributes h at n true) × (r ≡ true → now (found .exit) ≡ noteAll (now (nodes .entry)) t at n (now (found .entry))) ⌝ }
 {
     let mut i: u32 = 0;
     let mut p = at;
+    let mut nulls: u64 = 0;
+    let mut kinds: u64 = 0;
+    let span = h.end - h.start;
+    let now = rules::since(h.start, t);
     while i < n {
         let e = layout::read_entry(nodes, p);
-        if !rules::entry_sound(attributes, h, e) {
+        if !rules::fits(attributes, h.start, span, e) {
             return false;
         }
-        note(found, t, p, e);
+        kinds = rules::kinds(kinds, e);
+        nulls = rules::nulls(nulls, e);
+        note(found, h.start, now, p, e);
         p += layout::ENTRY;
         i += 1;
     }
-    true
+    (nulls == 0) & (kinds <= 1)
 }
 
-// Enters the node at which the walk stands, of which a level is due.
-fn enter(nodes: &[u8], v: View, t: u64, level: u32, w: Walk, found: &mut [u32]) -> Walk
-    requires { ⌜ Roomy v (now nodes) × (w .place .0 < v .used) × (w .entered < 65536) × (v .attributes ≤ length (now found)) ⌝ }
-    ensures { λ r. ⌜ (r ≡ step (now (nodes .entry)) v t level w) × (kept (r .rule) ≡ true → now (found .exit) ≡ noteAt (now (nodes .entry)) v t level w (now (found .entry))) ⌝ }
+// The nodes along the way, R6 of all their entries, each noted for its quark.
+fn along(nodes: &[u8], v: View, t: u64, path: &[u64], n: u32, found: &mut [u32]) -> bool
+    requires { ⌜ (n ≤ length (now path)) × ((i : ℕ) → i < n → Stands v (now nodes) (getD (now path) i 0)) × (v .attributes ≤ length (now found)) ⌝ }
+    ensures { λ r. ⌜ (r ≡ soundAlong (now (nodes .entry)) v (take n (now (path .entry)))) × (r ≡ true → now (found .exit) ≡ noteAlong (now (nodes .entry)) v t (take n (now (path .entry))) (now (found .entry))) ⌝ }
 {
-    let at = record::sound::stands_at(w.place.0, v.shape);
-    let h = layout::read_header(nodes, at);
-    let rule = rules::broken(v, w, level, h);
-    if !rules::kept(rule) {
-        return steps::ended(w, rule, w.place);
-    }
-    let first = at + layout::entry_at(v.shape, 0);
-    if !look(nodes, v.attributes, h, t, first, h.intervals as u32, found) {
-        return steps::ended(w, Rule::R6, w.place);
-    }
-    steps::descend(nodes, v, t, h, at, w)
-}
-
-fn walk_all(nodes: &[u8], v: View, t: u64, found: &mut [u32]) -> Walk
-    requires { ⌜ Roomy v (now nodes) × (v .attributes ≤ length (now found)) ⌝ }
-    ensures { λ r. ⌜ (r ≡ walkOf (now (nodes .entry)) v t) × (kept (r .rule) ≡ true → now (found .exit) ≡ foundAll (now (nodes .entry)) v t (now (found .entry))) ⌝ }
-{
-    let mut w = steps::root(v);
-    let mut n = v.level + 1;
-    while 0 < n {
-        if !w.go {
-            return w;
+    let mut k: u32 = 0;
+    while k < n {
+        let i = k as usize;
+        let at = path[i] as usize;
+        let h = layout::read_header(nodes, at);
+        let first = at + layout::entry_at(v.shape, 0);
+        if !look(nodes, v.attributes, h, t, first, h.intervals as u32, found) {
+            return false;
         }
-        n -= 1;
-        w = enter(nodes, v, t, n, w, found);
+        k += 1;
     }
-    w
+    true
 }
 
 // An ongoing state that starts at or below t is noted.
@@ -201,9 +192,12 @@ fn walked_in(
     if !note_ongoing(table, v, t, found) {
         return refused(Refusal::Damaged);
     }
-    let w = walk_all(nodes, v, t, found);
-    let rule = w.rule;
-    if !rules::kept(rule) {
+    let mut path = [0u64; 16];
+    let n = steps::way(nodes, v, t, &mut path);
+    if n == 0 {
+        return refused(Refusal::Damaged);
+    }
+    if !along(nodes, v, t, &path, n, found) {
         return refused(Refusal::Damaged);
     }
     if !all_one(found, v.attributes) {
@@ -212,7 +206,7 @@ fn walked_in(
     write_entries(nodes, table, found, answer, at, v.attributes);
     Full {
         refusal: Refusal::Nothing,
-        nodes: w.entered,
+        nodes: n,
     }
 }
 

@@ -5,22 +5,21 @@ use layout::Header;
 use layout::Quark;
 use layout::Shape;
 use record::Refusal;
-use walk::Rule;
 use walk::View;
-use walk::Walk;
 use walk::known;
 use walk::rules;
 use walk::steps;
 ghost use mathlib.Core.Path.{_≡_};
-ghost use Prim.Native.Nat.{_+_, _*_, _/_, _≤_, _<_};
+ghost use Prim.Native.Nat.{ℕ, _+_, _*_, _/_, _≤_, _<_};
 ghost use mathlib.Core.Bool.{true, false};
-ghost use lib.ListN.{length};
+ghost use lib.ListN.{length, getD, take};
 ghost use Rattle.layout.specs.Layout.{entrySize};
 ghost use Rattle.record.specs.Record.{recordOf};
 ghost use Rattle.walk.specs.View.{Roomy};
-ghost use Rattle.walk.specs.Rules.{kept};
-ghost use Rattle.walk.specs.Walk.{allSound, step, walkOf};
-ghost use Rattle.questions.specs.Found.{more, look, lookAt, foundOf, shown};
+ghost use Rattle.walk.specs.Walk.{allSound};
+ghost use Rattle.walk.specs.Way.{soundAlong, Stands};
+ghost use Rattle.questions.specs.Found.{more, look, shown};
+ghost use Rattle.questions.specs.Along.{lookAlong};
 ghost use Rattle.questions.specs.Single.{refusedSingle, walkedSingle, viewSingle, singleOf};
 
 // What was found for a quark: 0 nothing, p + 1 the one entry at byte p, MANY more than one.
@@ -32,12 +31,6 @@ pub struct Seen {
     pub found: u32,
 }
 
-// The walk, and what was found along it.
-pub struct Told {
-    pub walk: Walk,
-    pub found: u32,
-}
-
 pub fn more(s: u32, p: usize) -> u32
     requires { ⌜ p + entrySize ≤ 4294967296 ⌝ }
     ensures { λ r. ⌜ r ≡ more s p ⌝ }
@@ -45,7 +38,7 @@ pub fn more(s: u32, p: usize) -> u32
     if s == 0 { (p + 1) as u32 } else { MANY }
 }
 
-// Each of a node's entries is read once, for R6 and for the quark asked, up to the first that breaks R6: what was found matters only where none does.
+// Each of a node's entries is read once, for R6 and for the quark asked, up to the first that does not fit; the kinds and the nulls' values are tested at the end, for all of them at once. What was found matters only where none breaks R6.
 fn look(
     nodes: &[u8],
     attributes: u32,
@@ -56,22 +49,28 @@ fn look(
     n: u32,
     found: u32,
 ) -> Seen
-    requires { ⌜ (at + entrySize * n ≤ length (now nodes)) × (at + entrySize * n ≤ 4294967296) ⌝ }
+    requires { ⌜ (at + entrySize * n ≤ length (now nodes)) × (at + entrySize * n ≤ 4294967296) × (h .start ≤ h .end) ⌝ }
     ensures { λ r. ⌜ (r .sound ≡ allSound (now (nodes .entry)) attributes h at n true) × (r .sound ≡ true → r .found ≡ look (now (nodes .entry)) (quark .0) t at n found) ⌝ }
 {
     let mut s = found;
     let mut i: u32 = 0;
     let mut p = at;
+    let mut nulls: u64 = 0;
+    let mut kinds: u64 = 0;
+    let span = h.end - h.start;
+    let now = rules::since(h.start, t);
     while i < n {
         let e = layout::read_entry(nodes, p);
-        if !rules::entry_sound(attributes, h, e) {
+        if !rules::fits(attributes, h.start, span, e) {
             return Seen {
                 sound: false,
                 found: s,
             };
         }
+        kinds = rules::kinds(kinds, e);
+        nulls = rules::nulls(nulls, e);
         if e.quark.0 == quark.0 {
-            if rules::covers(t, e) {
+            if rules::reaches(h.start, now, e) {
                 s = more(s, p);
             }
         }
@@ -79,69 +78,43 @@ fn look(
         i += 1;
     }
     Seen {
-        sound: true,
+        sound: (nulls == 0) & (kinds <= 1),
         found: s,
     }
 }
 
-// Enters the node at which the walk stands, of which a level is due.
-fn enter(nodes: &[u8], v: View, quark: Quark, t: u64, level: u32, w: Walk, found: u32) -> Told
-    requires { ⌜ Roomy v (now nodes) × (w .place .0 < v .used) × (w .entered < 65536) ⌝ }
-    ensures { λ r. ⌜ (r .walk ≡ step (now (nodes .entry)) v t level w) × (kept (r .walk .rule) ≡ true → r .found ≡ lookAt (now (nodes .entry)) v (quark .0) t level w found) ⌝ }
+// The nodes along the way, R6 of all their entries and what was found for the quark.
+fn along(nodes: &[u8], v: View, quark: Quark, t: u64, path: &[u64], n: u32) -> Seen
+    requires { ⌜ (n ≤ length (now path)) × ((i : ℕ) → i < n → Stands v (now nodes) (getD (now path) i 0)) ⌝ }
+    ensures { λ r. ⌜ (r .sound ≡ soundAlong (now (nodes .entry)) v (take n (now (path .entry)))) × (r .sound ≡ true → r .found ≡ lookAlong (now (nodes .entry)) v (quark .0) t (take n (now (path .entry))) 0) ⌝ }
 {
-    let at = record::sound::stands_at(w.place.0, v.shape);
-    let h = layout::read_header(nodes, at);
-    let rule = rules::broken(v, w, level, h);
-    if !rules::kept(rule) {
-        let g = steps::ended(w, rule, w.place);
-        return Told {
-            walk: g,
-            found: found,
-        };
-    }
-    let first = at + layout::entry_at(v.shape, 0);
-    let seen = look(
-        nodes,
-        v.attributes,
-        h,
-        quark,
-        t,
-        first,
-        h.intervals as u32,
-        found,
-    );
-    if !seen.sound {
-        let g = steps::ended(w, Rule::R6, w.place);
-        return Told {
-            walk: g,
-            found: seen.found,
-        };
-    }
-    let g = steps::descend(nodes, v, t, h, at, w);
-    Told {
-        walk: g,
-        found: seen.found,
-    }
-}
-
-fn walk_for(nodes: &[u8], v: View, quark: Quark, t: u64) -> Told
-    requires { ⌜ Roomy v (now nodes) ⌝ }
-    ensures { λ r. ⌜ (r .walk ≡ walkOf (now (nodes .entry)) v t) × (kept (r .walk .rule) ≡ true → r .found ≡ foundOf (now (nodes .entry)) v (quark .0) t) ⌝ }
-{
-    let mut w = steps::root(v);
     let mut s: u32 = 0;
-    let mut n = v.level + 1;
-    while 0 < n {
-        if !w.go {
-            return Told { walk: w, found: s };
+    let mut k: u32 = 0;
+    while k < n {
+        let i = k as usize;
+        let at = path[i] as usize;
+        let h = layout::read_header(nodes, at);
+        let first = at + layout::entry_at(v.shape, 0);
+        let seen = look(
+            nodes,
+            v.attributes,
+            h,
+            quark,
+            t,
+            first,
+            h.intervals as u32,
+            s,
+        );
+        if !seen.sound {
+            return seen;
         }
-        n -= 1;
-        let r = enter(nodes, v, quark, t, n, w, s);
-        s = r.found;
-        let g = r.walk;
-        w = g;
+        s = seen.found;
+        k += 1;
     }
-    Told { walk: w, found: s }
+    Seen {
+        sound: true,
+        found: s,
+    }
 }
 
 // R7: exactly one.
@@ -174,10 +147,13 @@ pub fn walked(v: View, t: u64, quark: Quark, nodes: &[u8]) -> Single
     requires { ⌜ Roomy v (now nodes) ⌝ }
     ensures { λ r. ⌜ r ≡ walkedSingle v t (quark .0) (now (nodes .entry)) ⌝ }
 {
-    let r = walk_for(nodes, v, quark, t);
-    let w = r.walk;
-    let rule = w.rule;
-    if !rules::kept(rule) {
+    let mut path = [0u64; 16];
+    let n = steps::way(nodes, v, t, &mut path);
+    if n == 0 {
+        return refused(Refusal::Damaged);
+    }
+    let r = along(nodes, v, quark, t, &path, n);
+    if !r.sound {
         return refused(Refusal::Damaged);
     }
     if !one(r.found) {
@@ -186,7 +162,7 @@ pub fn walked(v: View, t: u64, quark: Quark, nodes: &[u8]) -> Single
     let e = layout::read_entry(nodes, (r.found - 1) as usize);
     Single {
         refusal: Refusal::Nothing,
-        nodes: w.entered,
+        nodes: n,
         entry: e,
     }
 }

@@ -1,14 +1,16 @@
 -- What a sound state is, in words. Assumes nothing.
-use Prim.Native.Nat.{ℕ, _^_, _<_, _≤_}
-use mathlib.Core.Path.{_≡_, refl, sym, subst, _∙_}
+use Prim.Native.Nat.{ℕ, zero, suc, _+_, _-_, _%_, _^_, _<_, _≤_}
+use mathlib.Core.Path.{_≡_, refl, sym, ap, subst, _∙_}
 use mathlib.Core.Bool.{Bool, true, false, _&&_, _||_}
 use mathlib.Core.Logic.{_⊎_, inl, inr}
+use native.Mathlib.Nat.{mod-eq-of-lt}
 use native.Mathlib.Omega.{arith}
+use lib.Bits.{bitAnd, and-zero-r, and-mask}
 use lib.Dec.{T, eqb, leb, lit<}
 use lib.IntN.{ℤ, pos}
-use borrow.Author.Tests.{eqb-true, eq-eqb, leb-true, le-leb}
+use borrow.Author.Tests.{eqb-true, eq-eqb, ne-eqb, leb-true, leb-false, le-leb}
 use mir.Syntax.{w64}
-use mir.Val.{SFits}
+use mir.Val.{ofZ, SFits}
 use mir.Facts.{sfits-lit}
 use Rattle.transient.specs.declared.Ongoing.{Ongoing}
 use Rattle.transient.specs.Transient.{sameValue, stateSound, ongoingSound, sameState, begins, OngoingFits}
@@ -40,6 +42,33 @@ module _ (kind : ℕ) (value : ℤ) where
   pub number-sound : kind ≡ 1 → stateSound kind value ≡ true
   unfolding stateSound
   number-sound k = simp k
+
+-- its value's bits under the mask that its kind makes: all of a null's, none of a number's
+pub state-masked : (kind b m : ℕ) (v : ℤ) → b ≡ ofZ w64 v → b < 2 ^ 64 → m < 2 ^ 64 → (m + 1) % 2 ^ 64 ≡ kind → kind ≤ 1 → eqb (bitAnd b m) 0 ≡ stateSound kind v
+unfolding stateSound
+state-masked zero b m v is fits small wraps known =
+    let ones : m ≡ 2 ^ 64 - 1 = omega arith in
+    let whole : bitAnd b m ≡ b = ap (bitAnd b) ones ∙ and-mask b 64 ∙ mod-eq-of-lt fits in
+    rw (whole, ← is) (go (eqb b 0))
+  where
+    go : (x : Bool) → x ≡ (x || false)
+    go true = refl
+    go false = refl
+state-masked (suc zero) b m v is fits small wraps known =
+    let none : m ≡ 0 = omega arith in
+    ap (λ (x : ℕ). eqb (bitAnd b x) 0) none ∙ rw and-zero-r
+state-masked (suc (suc kind)) b m v is fits small wraps known = absurd (omega (arith, known))
+
+pub kind-bad : (kind : ℕ) (v : ℤ) → 1 < kind → stateSound kind v ≡ false
+unfolding stateSound
+kind-bad kind v h = rw (ne-eqb kind 0 (λ z. omega (arith, z)), ne-eqb kind 1 (λ z. omega (arith, z)))
+
+pub state-tested : (kind x : ℕ) (v : ℤ) → (kind ≤ 1 → eqb x 0 ≡ stateSound kind v) → (leb kind 1 && eqb x 0) ≡ stateSound kind v
+state-tested kind x v is = go (leb kind 1) refl
+  where
+    go : (b : Bool) → leb kind 1 ≡ b → (b && eqb x 0) ≡ stateSound kind v
+    go true e = is (leb-true kind 1 e)
+    go false e = sym (kind-bad kind v (leb-false kind 1 e))
 
 -- ---- an entry of the table
 

@@ -57,28 +57,29 @@ and-no false y e = refl
 pub false-is : false ≡ true → ⊥
 false-is e = subst T (sym e) tt
 
--- ---- the counts of a header that keeps R4 are within K and C
+-- ---- the bounds of a header that keeps R3 are in order, its counts, as it keeps R4, within K and C
 
 pub record Fitting (v : View) (h : Header) : Type 0 where
+  pub bounds : h .start ≤ h .end
   pub intervals : h .intervals ≤ v .shape .k
   pub children : h .children ≤ v .shape .c
 
-r4-fits : (v : View) (h : Header) → r4 v h ≡ true → Fitting v h
-unfolding r4
-r4-fits v h e =
+fits : (v : View) (h : Header) → r3 h ≡ true → r4 v h ≡ true → Fitting v h
+unfolding r3 r4
+fits v h d e =
     let f = and-left (leb (h .intervals) (v .shape .k) && leb (h .children) (v .shape .c)) _ e in
-    record { intervals = leb-true _ _ (and-left _ _ f); children = leb-true _ _ (and-right (leb (h .intervals) (v .shape .k)) _ f) }
+    record { bounds = leb-true _ _ (and-left _ _ d); intervals = leb-true _ _ (and-left _ _ f); children = leb-true _ _ (and-right (leb (h .intervals) (v .shape .k)) _ f) }
 
 pub kept-fits : (v : View) (w : Walk) (level : ℕ) (h : Header) → kept (broken v w level h) ≡ true → Fitting v h
 unfolding broken
-kept-fits v w level h e = go (r1 v w h) (r2 level h) (r3 h) (r4 v h) (r5 w h) refl e
+kept-fits v w level h e = go (r1 v w h) (r2 level h) (r3 h) (r4 v h) (r5 w h) refl refl e
   where
-    go : (a b d e f : Bool) → r4 v h ≡ e → kept (cond a (cond b (cond d (cond e (cond f Kept R5) R4) R3) R2) R1) ≡ true → Fitting v h
-    go true true true true f y x = r4-fits v h y
-    go true true true false f y x = absurd (subst T (sym x) tt)
-    go true true false e f y x = absurd (subst T (sym x) tt)
-    go true false d e f y x = absurd (subst T (sym x) tt)
-    go false b d e f y x = absurd (subst T (sym x) tt)
+    go : (a b d e f : Bool) → r3 h ≡ d → r4 v h ≡ e → kept (cond a (cond b (cond d (cond e (cond f Kept R5) R4) R3) R2) R1) ≡ true → Fitting v h
+    go true true true true f z y x = fits v h z y
+    go true true true false f z y x = absurd (subst T (sym x) tt)
+    go true true false e f z y x = absurd (subst T (sym x) tt)
+    go true false d e f z y x = absurd (subst T (sym x) tt)
+    go false b d e f z y x = absurd (subst T (sym x) tt)
 
 pub broken-fits : (v : View) (w : Walk) (level : ℕ) (h : Header) (rule : Rule) (x : Bool) → rule ≡ broken v w level h → x ≡ kept rule → not x ≡ false → Fitting v h
 broken-fits v w level h rule x is good n = kept-fits v w level h (ap kept (sym is) ∙ sym good ∙ not-false x n)

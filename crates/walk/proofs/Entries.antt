@@ -1,64 +1,200 @@
--- R6 of an entry: each way through `entrySound`, and that a sound entry's quark is known. Assumes nothing.
-use Prim.Native.Nat.{ℕ, zero, suc, _*_, _≤_, _<_}
+-- R6 of an entry, as the questions test it: its times counted from the node's start on, its kind and value with those before, bit by bit. Assumes nothing.
+use Prim.Native.Nat.{ℕ, zero, suc, _+_, _-_, _%_, _≤_, _<_}
 use mathlib.Core.Path.{_≡_, refl, sym, ap, _∙_}
-use mathlib.Core.Bool.{Bool, true, false, not, _&&_, _||_}
+use mathlib.Core.Bool.{Bool, true, false, cond, not, _&&_}
 use native.Mathlib.Omega.{arith}
+use lib.Bits.{bitOr, and-le-l, and-le-r, or-lt, or-add-and}
 use lib.Dec.{leb, ltb, eqb}
 use lib.IntN.{ℤ}
-use mir.Syntax.{w64}
-use mir.Val.{ofZ}
-use borrow.Author.Tests.{ltb-true, lt-ltb, le-ltb, le-leb, lt-leb, ne-eqb, not-false}
+use borrow.Author.Tests.{ltb-true, lt-ltb, leb-true, leb-false, le-leb, lt-leb, ne-eqb, not-false}
 use Rattle.layout.specs.declared.Entry.{Entry}
 use Rattle.layout.specs.declared.Header.{Header}
 use Rattle.transient.specs.Transient.{stateSound}
-use Rattle.walk.specs.Rules.{entrySound}
-use Rattle.walk.proofs.Broken.{and-left, and-no}
+use Rattle.transient.proofs.Sound.{kind-bad}
+use Rattle.walk.specs.Rules.{entrySound, covers}
+use Rattle.walk.specs.Since.{since, entryFits, reaches}
+use Rattle.walk.proofs.Broken.{and-left, and-right, and-no}
 
--- a null's value is at most 0, any other at most the largest
-value-said : (kind b : ℕ) (v : ℤ) → kind ≤ 1 → b ≡ ofZ w64 v → b ≤ 18446744073709551615 → leb b (kind * 18446744073709551615) ≡ stateSound kind v
-unfolding stateSound
-value-said zero b v k is fits = rw (← is) (go b)
+-- ---- a time counted from a start on
+
+module _ (start x : ℕ) where
+  since-from : start ≤ x → since start x ≡ x - start
+  unfolding since
+  since-from h = rw (le-leb start x h)
+
+  since-before : x < start → since start x ≡ x + 18446744073709551616 - start
+  unfolding since
+  since-before h = rw (lt-leb start x h)
+
+  pub since-done : (r : ℕ) → r ≤ 18446744073709551615 → start ≤ 18446744073709551615 → (r + start) % 18446744073709551616 ≡ x → r ≡ since start x
+  unfolding since
+  since-done r h k e = go (leb start x) refl
+    where
+      go : (b : Bool) → leb start x ≡ b → r ≡ cond b (x - start) (x + 18446744073709551616 - start)
+      go true g = let f = leb-true start x g in omega arith
+      go false g = let f = leb-false start x g in omega arith
+
+-- ---- all but its kind and value
+
+record Fits (a start end : ℕ) (e : Entry) : Type 0 where
+  pub known : e .quark .0 < a
+  pub order : e .start ≤ e .end
+  pub from : start ≤ e .start
+  pub to : e .end ≤ end
+
+module _ (a start end : ℕ) (e : Entry) where
+  fits-facts : entryFits a start end e ≡ true → Fits a start end e
+  unfolding entryFits
+  fits-facts y =
+      let f = and-left (ltb (e .quark .0) a && leb (e .start) (e .end) && leb start (e .start)) _ y in
+      let g = and-left (ltb (e .quark .0) a && leb (e .start) (e .end)) _ f in
+      record {
+        known = ltb-true _ _ (and-left _ _ g);
+        order = leb-true _ _ (and-right (ltb (e .quark .0) a) _ g);
+        from = leb-true _ _ (and-right (ltb (e .quark .0) a && leb (e .start) (e .end)) _ f);
+        to = leb-true _ _ (and-right (ltb (e .quark .0) a && leb (e .start) (e .end) && leb start (e .start)) _ y);
+      }
+
+  fits-made : Fits a start end e → true ≡ entryFits a start end e
+  unfolding entryFits
+  fits-made f = rw (lt-ltb (e .quark .0) a (f .known), le-leb (e .start) (e .end) (f .order), le-leb start (e .start) (f .from), le-leb (e .end) end (f .to))
+
+  fits-not : (Fits a start end e → ⊥) → false ≡ entryFits a start end e
+  fits-not n = go (entryFits a start end e) refl
+    where
+      go : (b : Bool) → entryFits a start end e ≡ b → false ≡ b
+      go true y = absurd (n (fits-facts y))
+      go false y = refl
+
+  pub fits-quark : a ≤ e .quark .0 → false ≡ entryFits a start end e
+  fits-quark h = fits-not (λ f. omega (arith, f .known))
+
+module _ (a start span : ℕ) (e : Entry) (room : start + span ≤ 18446744073709551615) (last : e .end ≤ 18446744073709551615) (to : ℕ) (ends : to ≡ since start (e .end)) where
+  pub fits-late : span < to → false ≡ entryFits a start (start + span) e
+  fits-late h = fits-not a start (start + span) e (λ f. let g : e .end - start ≡ to = sym (ends ∙ since-from start (e .end) (omega (arith, f .from, f .order))) in omega (arith, f .to, f .from, f .order))
+
+  pub fits-order : (from : ℕ) → from ≡ since start (e .start) → e .quark .0 < a → to ≤ span → leb from to ≡ entryFits a start (start + span) e
+  fits-order from starts known h = go (leb from to) refl (leb start (e .start)) refl (leb start (e .end)) refl
+    where
+      go : (b : Bool) → leb from to ≡ b → (u : Bool) → leb start (e .start) ≡ u → (w : Bool) → leb start (e .end) ≡ w → b ≡ entryFits a start (start + span) e
+      go b y u v false z =
+          let l : e .end < start = leb-false start (e .end) z in
+          let k = since-before start (e .end) l in
+          absurd (omega arith)
+      go true y true v true z =
+          let l : start ≤ e .end = leb-true start (e .end) z in
+          let n : start ≤ e .start = leb-true start (e .start) v in
+          let o : from ≤ to = leb-true from to y in
+          let k = since-from start (e .end) l in
+          let m = since-from start (e .start) n in
+          fits-made a start (start + span) e (record { known = known; order = omega arith; from = n; to = omega arith })
+      go true y false v true z =
+          let l : start ≤ e .end = leb-true start (e .end) z in
+          let n : e .start < start = leb-false start (e .start) v in
+          let o : from ≤ to = leb-true from to y in
+          let k = since-from start (e .end) l in
+          let m = since-before start (e .start) n in
+          absurd (omega arith)
+      go false y u v true z =
+          let l : start ≤ e .end = leb-true start (e .end) z in
+          let o : to < from = leb-false from to y in
+          let k = since-from start (e .end) l in
+          fits-not a start (start + span) e (λ f. let m = since-from start (e .start) (f .from) in omega (arith, f .order, f .from))
+
+-- ---- its kind and value with those before, bit by bit
+
+or-left : (a b : ℕ) → a ≤ bitOr a b
+or-left a b = omega (arith, or-add-and a b, and-le-r a b)
+
+or-right : (a b : ℕ) → b ≤ bitOr a b
+or-right a b = omega (arith, or-add-and a b, and-le-l a b)
+
+pub or-small : (a b : ℕ) → leb (bitOr a b) 1 ≡ (leb a 1 && leb b 1)
+or-small a b = go (leb a 1) refl (leb b 1) refl
   where
-    go : (x : ℕ) → leb x 0 ≡ (eqb x 0 || false)
-    go zero = refl
-    go (suc x) = simp (lt-leb (suc x) 0 (omega arith), ne-eqb (suc x) 0 (λ e. omega (arith, e)))
-value-said (suc zero) b v k is fits = le-leb b 18446744073709551615 fits
-value-said (suc (suc kind)) b v k is fits = absurd (omega (arith, k))
+    go : (x : Bool) → leb a 1 ≡ x → (y : Bool) → leb b 1 ≡ y → leb (bitOr a b) 1 ≡ (x && y)
+    go true f true g = le-leb (bitOr a b) 1 (omega (arith, or-lt 1 a b (omega (arith, leb-true a 1 f)) (omega (arith, leb-true b 1 g))))
+    go true f false g = lt-leb (bitOr a b) 1 (omega (arith, or-right a b, leb-false b 1 g))
+    go false f y g = lt-leb (bitOr a b) 1 (omega (arith, or-left a b, leb-false a 1 f))
 
-module _ (a : ℕ) (h : Header) (e : Entry) where
-  pub entry-quark : a ≤ e .quark .0 → false ≡ entrySound a h e
-  unfolding entrySound
-  entry-quark k = rw (le-ltb (e .quark .0) a k)
+or-zero : (a b : ℕ) → eqb (bitOr a b) 0 ≡ (eqb a 0 && eqb b 0)
+or-zero zero b = refl
+or-zero (suc a) b = ne-eqb (bitOr (suc a) b) 0 (λ z. omega (arith, or-left (suc a) b, z)) ∙ sym (ap (λ (x : Bool). x && eqb b 0) (ne-eqb (suc a) 0 (λ z. omega (arith, z))))
 
-  pub entry-early : e .start < h .start → false ≡ entrySound a h e
-  unfolding entrySound
-  entry-early k = sym (ap (λ (b : Bool). b && leb (e .end) (h .end)) (and-no (ltb (e .quark .0) a && stateSound (e .kind) (e .value) && leb (e .start) (e .end)) _ (lt-leb (h .start) (e .start) k)))
+pub or-null : (before kind x : ℕ) (v : ℤ) → (kind ≤ 1 → eqb x 0 ≡ stateSound kind v) → kind ≤ 1 → eqb (bitOr before x) 0 ≡ (eqb before 0 && stateSound kind v)
+or-null before kind x v is k = or-zero before x ∙ ap (λ (y : Bool). eqb before 0 && y) (is k)
 
-  pub entry-order : e .end < e .start → false ≡ entrySound a h e
-  unfolding entrySound
-  entry-order k = sym (ap (λ (b : Bool). b && leb (h .start) (e .start) && leb (e .end) (h .end)) (and-no (ltb (e .quark .0) a && stateSound (e .kind) (e .value)) _ (lt-leb (e .start) (e .end) k)))
+-- the two together
+pub states-more : (nulls nulls′ kinds kinds′ : ℕ) (e : Entry) → leb kinds′ 1 ≡ (leb kinds 1 && leb (e .kind) 1) → (e .kind ≤ 1 → eqb nulls′ 0 ≡ (eqb nulls 0 && stateSound (e .kind) (e .value)))
+    → (eqb nulls′ 0 && leb kinds′ 1) ≡ (eqb nulls 0 && leb kinds 1 && stateSound (e .kind) (e .value))
+states-more nulls nulls′ kinds kinds′ e k n = go (leb (e .kind) 1) refl
+  where
+    S : Bool
+    S = stateSound (e .kind) (e .value)
 
-  pub entry-late : h .end < e .end → false ≡ entrySound a h e
-  unfolding entrySound
-  entry-late k = sym (and-no (ltb (e .quark .0) a && stateSound (e .kind) (e .value) && leb (e .start) (e .end) && leb (h .start) (e .start)) _ (lt-leb (e .end) (h .end) k))
-
-  -- what is left is its kind and value
-  module _ (known : e .quark .0 < a) (from : h .start ≤ e .start) (order : e .start ≤ e .end) (to : e .end ≤ h .end) where
-    state-left : stateSound (e .kind) (e .value) ≡ entrySound a h e
-    unfolding entrySound
-    state-left = rw (lt-ltb (e .quark .0) a known, le-leb (e .start) (e .end) order, le-leb (h .start) (e .start) from, le-leb (e .end) (h .end) to) (go (stateSound (e .kind) (e .value)))
+    swap : (x y s : Bool) → (x && s && (y && true)) ≡ (x && y && s)
+    swap true true s = go₁ s
       where
-        go : (s : Bool) → s ≡ (s && true && true && true)
-        go true = refl
-        go false = refl
+        go₁ : (s : Bool) → (s && true) ≡ s
+        go₁ true = refl
+        go₁ false = refl
+    swap true false true = refl
+    swap true false false = refl
+    swap false y s = refl
 
-    pub entry-kind : 1 < e .kind → false ≡ entrySound a h e
-    unfolding stateSound
-    entry-kind k = (rw (ne-eqb (e .kind) 0 (λ z. omega (arith, z)), ne-eqb (e .kind) 1 (λ z. omega (arith, z)))) ∙ state-left
+    lost : (x y z : Bool) → (z && (y && false)) ≡ (x && y && false)
+    lost x y z = and-no z _ (and-no y false refl) ∙ sym (and-no (x && y) false refl)
 
-    pub entry-value : (b : ℕ) → e .kind ≤ 1 → b ≡ ofZ w64 (e .value) → b ≤ 18446744073709551615 → leb b (e .kind * 18446744073709551615) ≡ entrySound a h e
-    entry-value b k is fits = value-said (e .kind) b (e .value) k is fits ∙ state-left
+    go : (b : Bool) → leb (e .kind) 1 ≡ b → (eqb nulls′ 0 && leb kinds′ 1) ≡ (eqb nulls 0 && leb kinds 1 && S)
+    go true y = rw (n (leb-true (e .kind) 1 y), k, y) (swap (eqb nulls 0) (leb kinds 1) S)
+    go false y = rw (k, y, kind-bad (e .kind) (e .value) (leb-false (e .kind) 1 y)) (lost (eqb nulls 0) (leb kinds 1) (eqb nulls′ 0))
 
-  pub sound-quark : (r : Bool) → r ≡ entrySound a h e → not r ≡ false → e .quark .0 < a
-  unfolding entrySound
-  sound-quark r is n = ltb-true _ _ (and-left _ _ (and-left _ _ (and-left _ _ (and-left _ _ (sym is ∙ not-false r n)))))
+-- ---- R6 of an entry is all of that
+
+pub sound-both : (a : ℕ) (h : Header) (e : Entry) → entrySound a h e ≡ (entryFits a (h .start) (h .end) e && stateSound (e .kind) (e .value))
+unfolding entrySound entryFits
+sound-both a h e = go (ltb (e .quark .0) a) (stateSound (e .kind) (e .value)) (leb (e .start) (e .end)) (leb (h .start) (e .start)) (leb (e .end) (h .end))
+  where
+    go : (q s o f t : Bool) → (q && s && o && f && t) ≡ (q && o && f && t && s)
+    go false s o f t = refl
+    go true true o f t = same (o && f && t)
+      where
+        same : (x : Bool) → x ≡ (x && true)
+        same true = refl
+        same false = refl
+    go true false o f t = sym (and-no (o && f && t) false refl)
+
+-- ---- an entry that fits covers t
+
+reaches-covers : (a start end t now : ℕ) (e : Entry) → Fits a start end e → e .end ≤ 18446744073709551615 → now ≡ since start t → reaches start now e ≡ covers t e
+unfolding reaches covers
+reaches-covers a start end t now e f last is =
+    ap (λ (x : ℕ). leb x now && leb now (since start (e .end))) (since-from start (e .start) (f .from))
+    ∙ ap (λ (x : ℕ). leb (e .start - start) now && leb now x) (since-from start (e .end) (omega (arith, f .from, f .order)))
+    ∙ go (leb start t) refl
+  where
+    both : (b : Bool) (x y x′ y′ : ℕ) → leb x y ≡ b → (x ≤ y → x′ ≤ y′) → (y < x → y′ < x′) → leb x y ≡ leb x′ y′
+    both true x y x′ y′ g u v = g ∙ sym (le-leb x′ y′ (u (leb-true x y g)))
+    both false x y x′ y′ g u v = g ∙ sym (lt-leb x′ y′ (v (leb-false x y g)))
+
+    go : (b : Bool) → leb start t ≡ b → (leb (e .start - start) now && leb now (e .end - start)) ≡ (leb (e .start) t && leb t (e .end))
+    go true g =
+        let h = leb-true _ _ g in
+        let k : now ≡ t - start = is ∙ since-from start t h in
+        ap (λ (x : Bool). x && leb now (e .end - start)) (both (leb (e .start - start) now) (e .start - start) now (e .start) t refl (λ u. omega (arith, f .from)) (λ u. omega (arith, f .from)))
+        ∙ ap (λ (x : Bool). leb (e .start) t && x) (both (leb now (e .end - start)) now (e .end - start) t (e .end) refl (λ u. omega (arith, f .from, f .order)) (λ u. omega (arith, f .from, f .order)))
+    go false g =
+        let h = leb-false _ _ g in
+        let k : now ≡ t + 18446744073709551616 - start = is ∙ since-before start t h in
+        and-no (leb (e .start - start) now) _ (lt-leb now (e .end - start) (omega (arith, f .from, f .order)))
+        ∙ sym (ap (λ (x : Bool). x && leb t (e .end)) (lt-leb (e .start) t (omega (arith, f .from))))
+
+module _ (a start end : ℕ) (e : Entry) (f : Bool) (gives : f ≡ entryFits a start end e) (y : not f ≡ false) where
+  fitting : Fits a start end e
+  fitting = fits-facts a start end e (sym gives ∙ not-false f y)
+
+  pub known-quark : e .quark .0 < a
+  known-quark = fitting .known
+
+  pub covers-told : (t now : ℕ) (b : Bool) → e .end ≤ 18446744073709551615 → now ≡ since start t → b ≡ reaches start now e → b ≡ covers t e
+  covers-told t now b last is r = r ∙ reaches-covers a start end t now e fitting last is

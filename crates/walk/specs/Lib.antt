@@ -1,3 +1,5 @@
 pub mod View
 pub mod Rules
+pub mod Since
 pub mod Walk
+pub mod Way

@@ -5,7 +5,12 @@ use crate::Walk;
 use layout::Entry;
 use layout::Header;
 ghost use mathlib.Core.Path.{_≡_};
-ghost use Rattle.walk.specs.Rules.{broken, kept, entrySound, holds, covers};
+ghost use mathlib.Core.Bool.{_&&_};
+ghost use Prim.Native.Nat.{_+_, _≤_};
+ghost use lib.Dec.{leb, eqb};
+ghost use Rattle.transient.specs.Transient.{stateSound};
+ghost use Rattle.walk.specs.Rules.{broken, kept, holds};
+ghost use Rattle.walk.specs.Since.{since, entryFits, reaches};
 
 // The lowest of R1 to R5 that a header breaks.
 pub fn broken(v: View, w: Walk, level: u32, h: Header) -> Rule
@@ -45,27 +50,50 @@ pub fn kept(rule: Rule) -> bool
     }
 }
 
-// R6 of an entry.
-pub fn entry_sound(attributes: u32, h: Header, e: Entry) -> bool
-    ensures { λ r. ⌜ r ≡ entrySound attributes h e ⌝ }
+// A time counted from a node's start on, around 2^64: what is before the start comes out behind everything in the node.
+pub fn since(start: u64, x: u64) -> u64
+    ensures { λ r. ⌜ r ≡ since start x ⌝ }
+{
+    std::num::wrapping_sub_u64(x, start)
+}
+
+// R6 of an entry but for its kind and value: a known quark, "start not after end, inside the node". Counted from the node's start on two comparisons tell what otherwise takes three.
+pub fn fits(attributes: u32, start: u64, span: u64, e: Entry) -> bool
+    requires { ⌜ start + span ≤ 18446744073709551615 ⌝ }
+    ensures { λ r. ⌜ r ≡ entryFits attributes start (start + span) e ⌝ }
 {
     if attributes <= e.quark.0 {
         return false;
     }
-    if e.start < h.start {
+    let from = since(start, e.start);
+    let to = since(start, e.end);
+    if span < to {
         return false;
     }
-    if e.end < e.start {
-        return false;
-    }
-    if h.end < e.end {
-        return false;
-    }
-    if 1 < e.kind {
-        return false;
-    }
-    // A null's value is 0, any other may be all that 64 bits can say: in one comparison, since a branch on the kind would be guessed wrongly too often.
-    words::bits(e.value) <= e.kind as u64 * 0xffff_ffff_ffff_ffff
+    from <= to
+}
+
+// The kinds so far, bit by bit: 0 or 1 as long as each is.
+pub fn kinds(before: u64, e: Entry) -> u64
+    ensures { λ r. ⌜ leb r 1 ≡ (leb before 1 && leb (e .kind) 1) ⌝ }
+{
+    before | e.kind as u64
+}
+
+// The nulls' values so far, bit by bit: 0 as long as each is.
+pub fn nulls(before: u64, e: Entry) -> u64
+    ensures { λ r. ⌜ (e .kind ≤ 1 → eqb r 0 ≡ (eqb before 0 && stateSound (e .kind) (e .value))) ⌝ }
+{
+    before | transient::null_value(e.kind, e.value)
+}
+
+// An entry that fits covers the time `now`, counted from the node's start on too.
+pub fn reaches(start: u64, now: u64, e: Entry) -> bool
+    ensures { λ r. ⌜ r ≡ reaches start now e ⌝ }
+{
+    let from = since(start, e.start);
+    let to = since(start, e.end);
+    (from <= now) & (now <= to)
 }
 
 // "An open node holds every t from its start."
@@ -73,10 +101,4 @@ pub fn holds(t: u64, h: Header) -> bool
     ensures { λ r. ⌜ r ≡ holds t h ⌝ }
 {
     (h.start <= t) & ((h.state == 1) | (t <= h.end))
-}
-
-pub fn covers(t: u64, e: Entry) -> bool
-    ensures { λ r. ⌜ r ≡ covers t e ⌝ }
-{
-    (e.start <= t) & (t <= e.end)
 }

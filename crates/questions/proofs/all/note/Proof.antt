@@ -17,5 +17,5 @@ note-spec =
     (λ c. search needs)
     (λ c. search needs)
     (λ c. simp length-set)
-    (λ c. note-yes _ _ _ _ _ (c .before .before .before .before .covers .ensures) _ (c .before .before .before .if1 .taken) (c .more .ensures))
-    (λ c. note-no _ _ _ _ _ (c .before .covers .ensures) (c .if1 .left)))
+    (λ c. note-yes _ _ _ _ _ (c .before .before .before .before .reaches .ensures) _ (c .before .before .before .if1 .taken) (c .more .ensures))
+    (λ c. note-no _ _ _ _ _ (c .before .reaches .ensures) (c .if1 .left)))

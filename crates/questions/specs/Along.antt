@@ -1,0 +1,17 @@
+-- How the questions go about it: what is found along the way. The promise does not speak of it: a law ties it to what the walk finds.
+use Prim.Native.Nat.{ℕ, _+_}
+use mathlib.Core.List.{List, [], _∷_}
+use Rattle.layout.specs.Layout.{entryAt, readHeader}
+use Rattle.walk.specs.declared.View.{View}
+use Rattle.questions.specs.Found.{look}
+use Rattle.questions.specs.Table.{noteAll}
+
+-- for one quark, in the nodes at these bytes, after s was found
+unfoldable pub lookAlong : List ℕ → View → ℕ → ℕ → List ℕ → ℕ → ℕ
+lookAlong l v q t [] s = s
+lookAlong l v q t (p ∷ ps) s = lookAlong l v q t ps (look l q t (p + entryAt (v .shape) 0) (readHeader l p .intervals) s)
+
+-- for all quarks
+unfoldable pub noteAlong : List ℕ → View → ℕ → List ℕ → List ℕ → List ℕ
+noteAlong l v t [] xs = xs
+noteAlong l v t (p ∷ ps) xs = noteAlong l v t ps (noteAll l t (p + entryAt (v .shape) 0) (readHeader l p .intervals) xs)
