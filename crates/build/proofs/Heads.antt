@@ -20,7 +20,7 @@ use Rattle.record.specs.Firm.{Firm}
 use Rattle.record.specs.Moves.{closed, raised, made, stored}
 use Rattle.record.proofs.Lies.{seq-lies, place-lies, start-lies, intervals-lie, children-lie}
 use Rattle.record.proofs.Room.{nodes-room}
-use Rattle.build.specs.Moves.{openEnd, parentAt, headOf, standsAt, Standing, Room, putHead, putNew, withChild, Turns, close, raise, make, store}
+use Rattle.build.specs.Moves.{openEnd, parentAt, headOf, standsAt, Standing, Room, putHead, putNew, withChild, Turns, close, raise, make, added, store}
 use Rattle.build.proofs.Stands.{length-head, child-stands}
 
 -- ---- what is read of the array is what the record says
@@ -109,6 +109,14 @@ module _ (s : Shape) (w b : List ℕ) (at slot : ℕ) (room : at + nodeSize s �
 
     pub entry-small : at + slot ≤ 4294967296
     entry-small = omega (arith, entry-ends, nodes-room (s .n) (nodeSize s) (p .1 .shaped .nodes) (p .1 .shaped .size))
+
+    -- without the header
+    pub entry-alone : at + slot + entrySize ≤ length b
+    entry-alone = omega (arith, entry-ends, p .2)
+
+    pub add-done : (v : List ℕ) (x : Entry) (d : List ℕ) → at ≡ standsAt (recordOf s w) l → Becomes w v (λ g. stored g l) → d ≡ sets b (at + slot) (entryBytes x) → Turns s w b v d (added x l)
+    unfolding added
+    add-done v x d stands e with = (e .0, e .1 s, with ∙ rw (stands, entry-slot) refl)
 
     module _ (v c : List ℕ) (put : c ≡ putHead (recordOf s v) l openEnd 1 b) where
       pub entry-inside : at + slot + entrySize ≤ length c

@@ -1,4 +1,4 @@
--- The four ways in which record and node bytes change together: close, raise, make, store.
+-- The four ways in which record and node bytes change together: close, raise, make, store; and the part of store that is not the header.
 use Prim.Native.Nat.{ℕ, _+_, _*_, _≤_, _<_}
 use mathlib.Core.Bool.{cond}
 use mathlib.Core.List.{List}
@@ -108,6 +108,13 @@ unfoldable pub store : Entry → ℕ → Held → Held
 store e l σ = let h = σ .history in let g = stored h l in record {
   history = g;
   nodes = sets (putHead g l openEnd 1 (σ .nodes)) (standsAt h l + entryAt (h .shape) (intervalsAt (h .branch) l)) (entryBytes e);
+}
+
+-- how finish goes about it: the entry alone, the header is written later
+unfoldable pub added : Entry → ℕ → Held → Held
+added e l σ = let h = σ .history in record {
+  history = stored h l;
+  nodes = sets (σ .nodes) (standsAt h l + entryAt (h .shape) (intervalsAt (h .branch) l)) (entryBytes e);
 }
 
 -- what a move does to the record's array and the nodes

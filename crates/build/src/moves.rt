@@ -1,4 +1,4 @@
-// The four ways in which record and node bytes change together, and the header of an open level.
+// The four ways in which record and node bytes change together, the header of an open level, and an interval whose header is left.
 use layout::Child;
 use layout::Entry;
 use layout::First;
@@ -12,7 +12,7 @@ ghost use Rattle.layout.specs.Layout.{nodeSize};
 ghost use Rattle.record.specs.Record.{branchOf, recordOf};
 ghost use Rattle.record.specs.Levels.{placeAt, intervalsAt, childrenAt};
 ghost use Rattle.record.specs.Firm.{Shaped, Firm};
-ghost use Rattle.build.specs.Moves.{parentAt, headOf, standsAt, putHead, putNew, Fitting, Standing, Room, Turns, close, raise, make, store};
+ghost use Rattle.build.specs.Moves.{parentAt, headOf, standsAt, putHead, putNew, Fitting, Standing, Room, Turns, close, raise, make, added, store};
 
 // "end u64 (2^64-1 while open)"
 pub const OPEN_END: u64 = 0xffff_ffff_ffff_ffff;
@@ -122,6 +122,17 @@ pub fn make(nodes: &mut [u8], shape: Shape, h: &mut [u64; 87], start: u64, level
     put_head(nodes, shape, h, up, OPEN_END, 1);
     layout::put_child(nodes, at + slot, child);
     put_new(nodes, shape, h, level, First::Nothing);
+}
+
+// An interval in an open node whose header is left to the caller: one header is enough for a run of intervals.
+pub fn add(nodes: &mut [u8], shape: Shape, h: &mut [u64; 87], e: Entry, level: u64)
+    requires { ⌜ (length (now h) ≡ 87) × Firm (recordOf shape (now h)) × Room (recordOf shape (now h)) (now nodes) × (getD (now h) 85 0 ≤ level) × (level ≤ getD (now h) 86 0) × (intervalsAt (branchOf (now h)) level < shape .k) ⌝ }
+    ensures { λ _. ⌜ Turns shape (now (h .entry)) (now (nodes .entry)) (now (h .exit)) (now (nodes .exit)) (added e level) ⌝ }
+{
+    let slot = layout::entry_at(shape, h[record::INTERVALS + level as usize] as u32);
+    let at = place_of(shape, h, level);
+    record::moves::stored(h, level);
+    layout::put_entry(nodes, at + slot, e);
 }
 
 // A level takes an interval: its header, and the entry.

@@ -29,7 +29,8 @@ use Rattle.build.proofs.Trials.{tried-firm, tried-refusal}
 use Rattle.build.proofs.Steps.{inserted-history, inserted-length}
 use Rattle.build.proofs.Inserted.{inserted-firm, inserted-room}
 use Rattle.calls.specs.Outcome.{Outcome, answered, outcome}
-use Rattle.calls.specs.Finish.{allSound, trial, finishRefusal, storedFrom, finishOf}
+use Rattle.calls.specs.Finish.{allSound, trial, finishRefusal, storedFrom, finishOf, caughtUp}
+use Rattle.calls.proofs.Due.{none-due, length-caught}
 use Rattle.calls.proofs.Refused.{accepted-nothing, refuses, passes, unadmitted, after-head, comes-refused, comes-done}
 
 no : {A : Type 0} → _≡_ {A = ℕ} 0 1 → A
@@ -105,11 +106,15 @@ pub record StoreLeft (n : ℕ) (table : List ℕ) (t : ℕ) (h : History) (b : L
   pub whole : storedFrom (n - q) q table t (held g c) ≡ storedFrom n 0 table t (held h b)
 
 module _ (n : ℕ) (table : List ℕ) (t : ℕ) (h : History) (b : List ℕ) where
-  pub store-begins : Firm h → Room h b → StoreLeft n table t h b 0 h b
+  store-begins : Firm h → Room h b → StoreLeft n table t h b 0 h b
   store-begins f room = record { firm = f; room = room; long = refl; whole = ap (λ (m : ℕ). storedFrom m 0 table t (held h b)) (sub-zero n) }
 
+  -- no header is due yet
+  pub late-begins : Firm h → Room h b → StoreLeft n table t h b 0 h (caughtUp h 16 b)
+  late-begins f room = subst (StoreLeft n table t h b 0 h) (none-due h 16 b (omega arith)) (store-begins f room)
+
   module _ (q : ℕ) (g : History) (c : List ℕ) (left : StoreLeft n table t h b q g c) where
-    pub store-ends : n ≤ q → held g c ≡ storedFrom n 0 table t (held h b)
+    store-ends : n ≤ q → held g c ≡ storedFrom n 0 table t (held h b)
     unfolding storedFrom
     store-ends le = let z : n - q ≡ 0 = omega arith in simp z at (left .whole)
 
@@ -131,6 +136,17 @@ module _ (n : ℕ) (table : List ℕ) (t : ℕ) (h : History) (b : List ℕ) whe
             long = ap length e ∙ inserted-length x (held g c) ∙ left .long;
             whole = ap (storedFrom (n - (q + 1)) (q + 1) table t) one ∙ sym (ap (λ (m : ℕ). storedFrom m q table t (held g c)) z) ∙ left .whole;
           }
+
+  -- the buffer itself, in which the header that is due is still to be written
+  module _ (q : ℕ) (g : History) (due : ℕ) (d : List ℕ) (left : StoreLeft n table t h b q g (caughtUp g due d)) where
+    pub late-long : length d ≡ length b
+    late-long = sym (length-caught g due d) ∙ left .long
+
+    pub late-room : Room g d
+    late-room = omega (arith, left .room, length-caught g due d)
+
+    pub late-ends : n ≤ q → (e : List ℕ) → e ≡ caughtUp g due d → held g e ≡ storedFrom n 0 table t (held h b)
+    late-ends le e is = ap (held g) is ∙ store-ends q g (caughtUp g due d) left le
 
 -- ---- an accepted trial: no interval is refused when all are stored
 

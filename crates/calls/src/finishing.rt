@@ -1,4 +1,5 @@
 // Finishing a history.
+use layout::Entry;
 use layout::Quark;
 use layout::Shape;
 use record::Refusal;
@@ -10,8 +11,9 @@ ghost use Rattle.record.specs.Record.{recordOf};
 ghost use Rattle.record.specs.Sound.{lastTime};
 ghost use Rattle.record.specs.Firm.{Firm};
 ghost use Rattle.build.specs.Moves.{Room, Turns};
+ghost use Rattle.build.specs.Write.{inserted};
 ghost use Rattle.calls.specs.Outcome.{Comes};
-ghost use Rattle.calls.specs.Finish.{allSound, trial, finishRefusal, storedFrom, finishOf};
+ghost use Rattle.calls.specs.Finish.{allSound, trial, finishRefusal, storedFrom, finishOf, Due, caughtUp};
 
 // Every entry below the attribute count is read, and all have to be sound.
 fn all_sound(shape: Shape, h: &[u64; 87], table: &[u8]) -> bool
@@ -52,6 +54,39 @@ fn trial(shape: Shape, h: [u64; 87], table: &[u8], t: u64) -> Refusal
     Refusal::Nothing
 }
 
+// No level's header is still to be written.
+const NONE: u64 = 16;
+
+// The header of the level that is due, if there is one.
+fn write_due(nodes: &mut [u8], shape: Shape, h: &[u64; 87], due: u64)
+    requires { ⌜ Firm (recordOf shape (now h)) × Room (recordOf shape (now h)) (now nodes) × Due (recordOf shape (now h)) due ⌝ }
+    ensures { λ _. ⌜ now (nodes .exit) ≡ caughtUp (recordOf shape (now (h .entry))) due (now (nodes .entry)) ⌝ }
+{
+    if due < NONE {
+        build::moves::put_head(nodes, shape, h, due, build::moves::OPEN_END, 1);
+    }
+}
+
+// One interval. Where an open node takes it, that node's header is left to be written and its level returned: the next mostly goes into the same node,
+// and one header is enough for the run.
+fn store_one(nodes: &mut [u8], shape: Shape, h: &mut [u64; 87], e: Entry, due: u64) -> u64
+    requires { ⌜ (length (now h) ≡ 87) × Firm (recordOf shape (now h)) × Room (recordOf shape (now h)) (now nodes) × Due (recordOf shape (now h)) due × (e .end ≤ lastTime) ⌝ }
+    ensures { λ r. ⌜ Due (recordOf shape (now (h .exit))) r × Turns shape (now (h .entry)) (caughtUp (recordOf shape (now (h .entry))) due (now (nodes .entry))) (now (h .exit)) (caughtUp (recordOf shape (now (h .exit))) r (now (nodes .exit))) (inserted e) ⌝ }
+{
+    let level = build::settle::seek(h, e.start);
+    if build::settle::takes(shape, h, e.start, level) {
+        if level != due {
+            write_due(nodes, shape, h, due);
+        }
+        record::moves::stretched(h, e.end);
+        build::moves::add(nodes, shape, h, e, level);
+        return level;
+    }
+    write_due(nodes, shape, h, due);
+    let r = build::write::insert(nodes, shape, h, e);
+    NONE
+}
+
 // "Finish at T stores, in quark order, every ongoing interval with end T."
 fn store_all(nodes: &mut [u8], table: &[u8], shape: Shape, h: &mut [u64; 87], t: u64)
     requires { ⌜ (length (now h) ≡ 87) × Firm (recordOf shape (now h)) × Room (recordOf shape (now h)) (now nodes) × (getD (now h) 83 0 ≤ length (now table) / entrySize) × (getD (now h) 83 0 ≤ 4096) × (t ≤ lastTime) ⌝ }
@@ -59,12 +94,14 @@ fn store_all(nodes: &mut [u8], table: &[u8], shape: Shape, h: &mut [u64; 87], t:
 {
     let n = h[record::ATTRIBUTES] as u32;
     let mut q: u32 = 0;
+    let mut due = NONE;
     while q < n {
         let o = transient::read_ongoing(table, Quark(q));
         let e = transient::ongoing_entry(Quark(q), o, t);
-        let r = build::write::insert(nodes, shape, h, e);
+        due = store_one(nodes, shape, h, e, due);
         q += 1;
     }
+    write_due(nodes, shape, h, due);
 }
 
 fn refusal(shape: Shape, h: &[u64; 87], t: u64, nodes: usize, table: &[u8]) -> Refusal
