@@ -7,9 +7,9 @@ use layout::Seq;
 use layout::Shape;
 ghost use mathlib.Core.Path.{_≡_};
 ghost use Prim.Native.Nat.{_+_, _*_, _≤_, _<_};
-ghost use lib.ListN.{getD, length};
+ghost use lib.ListN.{length};
 ghost use Rattle.layout.specs.Layout.{nodeSize};
-ghost use Rattle.record.specs.Record.{branchOf, recordOf};
+ghost use Rattle.record.specs.Record.{branchOf, recordOf, usedIn, lowIn, topIn};
 ghost use Rattle.record.specs.Levels.{placeAt, intervalsAt, childrenAt};
 ghost use Rattle.record.specs.Firm.{Shaped, Firm};
 ghost use Rattle.build.specs.Moves.{parentAt, headOf, standsAt, putHead, putNew, Fitting, Standing, Room, Turns, close, raise, make, added, store};
@@ -21,7 +21,7 @@ pub const OPEN_END: u64 = 0xffff_ffff_ffff_ffff;
 pub const NO_PARENT: u32 = 0xffff_ffff;
 
 fn parent_of(h: &[u64; 87], level: u64) -> Seq
-    requires { ⌜ Fitting (branchOf (now h)) (getD (now h) 86 0) level ⌝ }
+    requires { ⌜ Fitting (branchOf (now h)) (topIn (now h)) level ⌝ }
     ensures { λ r. ⌜ ((s : Shape) → r ≡ parentAt (recordOf s (now (h .entry))) level) ⌝ }
 {
     if level < h[record::TOP] {
@@ -33,7 +33,7 @@ fn parent_of(h: &[u64; 87], level: u64) -> Seq
 
 // "What is written into open nodes comes from the record, not from node bytes."
 fn head_of(h: &[u64; 87], level: u64, end: u64, state: u8) -> Header
-    requires { ⌜ Fitting (branchOf (now h)) (getD (now h) 86 0) level ⌝ }
+    requires { ⌜ Fitting (branchOf (now h)) (topIn (now h)) level ⌝ }
     ensures { λ r. ⌜ ((s : Shape) → r ≡ headOf (recordOf s (now (h .entry))) level end state) ⌝ }
 {
     let parent = parent_of(h, level);
@@ -80,7 +80,7 @@ pub fn put_new(nodes: &mut [u8], shape: Shape, h: &[u64; 87], level: u64, first:
 
 // "Closing gives the node .. the end S": the lowest level, under an open one.
 pub fn close(nodes: &mut [u8], shape: Shape, h: &mut [u64; 87])
-    requires { ⌜ (length (now h) ≡ 87) × Firm (recordOf shape (now h)) × Room (recordOf shape (now h)) (now nodes) × (getD (now h) 85 0 < getD (now h) 86 0) ⌝ }
+    requires { ⌜ (length (now h) ≡ 87) × Firm (recordOf shape (now h)) × Room (recordOf shape (now h)) (now nodes) × (lowIn (now h) < topIn (now h)) ⌝ }
     ensures { λ _. ⌜ Turns shape (now (h .entry)) (now (nodes .entry)) (now (h .exit)) (now (nodes .exit)) close ⌝ }
 {
     let low = h[record::LOW];
@@ -91,7 +91,7 @@ pub fn close(nodes: &mut [u8], shape: Shape, h: &mut [u64; 87])
 
 // "If the root was closed, a new root is made first .. with the old root as its only child, which learns its parent in the same call."
 pub fn raise(nodes: &mut [u8], shape: Shape, h: &mut [u64; 87])
-    requires { ⌜ (length (now h) ≡ 87) × Firm (recordOf shape (now h)) × Room (recordOf shape (now h)) (now nodes) × (getD (now h) 85 0 ≡ getD (now h) 86 0) × (getD (now h) 86 0 < 15) × (getD (now h) 84 0 < shape .n) ⌝ }
+    requires { ⌜ (length (now h) ≡ 87) × Firm (recordOf shape (now h)) × Room (recordOf shape (now h)) (now nodes) × (lowIn (now h) ≡ topIn (now h)) × (topIn (now h) < 15) × (usedIn (now h) < shape .n) ⌝ }
     ensures { λ _. ⌜ Turns shape (now (h .entry)) (now (nodes .entry)) (now (h .exit)) (now (nodes .exit)) raise ⌝ }
 {
     let root = h[record::TOP];
@@ -108,7 +108,7 @@ pub fn raise(nodes: &mut [u8], shape: Shape, h: &mut [u64; 87])
 
 // A node of a chain under the lowest level: the parent's header and its new child entry, and the new node whole.
 pub fn make(nodes: &mut [u8], shape: Shape, h: &mut [u64; 87], start: u64, level: u64)
-    requires { ⌜ (length (now h) ≡ 87) × Firm (recordOf shape (now h)) × Room (recordOf shape (now h)) (now nodes) × (getD (now h) 85 0 ≡ level + 1) × (childrenAt (branchOf (now h)) (level + 1) < shape .c) × (getD (now h) 84 0 < shape .n) ⌝ }
+    requires { ⌜ (length (now h) ≡ 87) × Firm (recordOf shape (now h)) × Room (recordOf shape (now h)) (now nodes) × (lowIn (now h) ≡ level + 1) × (childrenAt (branchOf (now h)) (level + 1) < shape .c) × (usedIn (now h) < shape .n) ⌝ }
     ensures { λ _. ⌜ Turns shape (now (h .entry)) (now (nodes .entry)) (now (h .exit)) (now (nodes .exit)) (make start level) ⌝ }
 {
     let up = level + 1;
@@ -126,7 +126,7 @@ pub fn make(nodes: &mut [u8], shape: Shape, h: &mut [u64; 87], start: u64, level
 
 // An interval in an open node whose header is left to the caller: one header is enough for a run of intervals.
 pub fn add(nodes: &mut [u8], shape: Shape, h: &mut [u64; 87], e: Entry, level: u64)
-    requires { ⌜ (length (now h) ≡ 87) × Firm (recordOf shape (now h)) × Room (recordOf shape (now h)) (now nodes) × (getD (now h) 85 0 ≤ level) × (level ≤ getD (now h) 86 0) × (intervalsAt (branchOf (now h)) level < shape .k) ⌝ }
+    requires { ⌜ (length (now h) ≡ 87) × Firm (recordOf shape (now h)) × Room (recordOf shape (now h)) (now nodes) × (lowIn (now h) ≤ level) × (level ≤ topIn (now h)) × (intervalsAt (branchOf (now h)) level < shape .k) ⌝ }
     ensures { λ _. ⌜ Turns shape (now (h .entry)) (now (nodes .entry)) (now (h .exit)) (now (nodes .exit)) (added e level) ⌝ }
 {
     let slot = layout::entry_at(shape, h[record::INTERVALS + level as usize] as u32);
@@ -137,7 +137,7 @@ pub fn add(nodes: &mut [u8], shape: Shape, h: &mut [u64; 87], e: Entry, level: u
 
 // A level takes an interval: its header, and the entry.
 pub fn store(nodes: &mut [u8], shape: Shape, h: &mut [u64; 87], e: Entry, level: u64)
-    requires { ⌜ (length (now h) ≡ 87) × Firm (recordOf shape (now h)) × Room (recordOf shape (now h)) (now nodes) × (getD (now h) 85 0 ≤ level) × (level ≤ getD (now h) 86 0) × (intervalsAt (branchOf (now h)) level < shape .k) ⌝ }
+    requires { ⌜ (length (now h) ≡ 87) × Firm (recordOf shape (now h)) × Room (recordOf shape (now h)) (now nodes) × (lowIn (now h) ≤ level) × (level ≤ topIn (now h)) × (intervalsAt (branchOf (now h)) level < shape .k) ⌝ }
     ensures { λ _. ⌜ Turns shape (now (h .entry)) (now (nodes .entry)) (now (h .exit)) (now (nodes .exit)) (store e level) ⌝ }
 {
     let slot = layout::entry_at(shape, h[record::INTERVALS + level as usize] as u32);

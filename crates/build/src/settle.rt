@@ -4,8 +4,7 @@ use layout::Shape;
 use record::Refusal;
 ghost use mathlib.Core.Path.{_≡_};
 ghost use Prim.Native.Nat.{_+_, _-_, _≤_, _<_};
-ghost use lib.ListN.{getD};
-ghost use Rattle.record.specs.Record.{branchOf, recordOf};
+ghost use Rattle.record.specs.Record.{branchOf, recordOf, usedIn, lowIn, topIn};
 ghost use Rattle.build.specs.Settle.{ruled, askUp, lowest, taken, settle, needed, planRefusal};
 
 // What rules 1 and 2 say of a node.
@@ -36,8 +35,8 @@ fn rule(shape: Shape, h: &[u64; 87], s: u64, level: u64, child: bool, last: u64)
 
 // "Then the same question is put again to the parent": the number of open levels left falls.
 fn ask(shape: Shape, h: &[u64; 87], s: u64, level: u64, child: bool, last: u64, closes: u64) -> Plan
-    requires { ⌜ (getD (now h) 85 0 ≤ level) × (level ≤ getD (now h) 86 0) × (getD (now h) 86 0 < 16) ⌝ }
-    ensures { λ r. ⌜ r ≡ askUp (getD (now (h .entry)) 86 0 - level) (recordOf shape (now (h .entry))) s level child last closes ⌝ }
+    requires { ⌜ (lowIn (now h) ≤ level) × (level ≤ topIn (now h)) × (topIn (now h) < 16) ⌝ }
+    ensures { λ r. ⌜ r ≡ askUp (topIn (now (h .entry)) - level) (recordOf shape (now (h .entry))) s level child last closes ⌝ }
 {
     let v = rule(shape, h, s, level, child, last);
     match v {
@@ -72,8 +71,8 @@ fn ask(shape: Shape, h: &[u64; 87], s: u64, level: u64, child: bool, last: u64, 
 
 // The lowest open level with start at or below s, or the root's.
 pub fn seek(h: &[u64; 87], s: u64) -> u64
-    requires { ⌜ (getD (now h) 85 0 ≤ getD (now h) 86 0) × (getD (now h) 86 0 < 16) ⌝ }
-    ensures { λ r. ⌜ (r ≡ lowest (getD (now (h .entry)) 86 0 - getD (now (h .entry)) 85 0) (branchOf (now (h .entry))) s (getD (now (h .entry)) 85 0)) × (getD (now (h .entry)) 85 0 ≤ r) × (r ≤ getD (now (h .entry)) 86 0) ⌝ }
+    requires { ⌜ (lowIn (now h) ≤ topIn (now h)) × (topIn (now h) < 16) ⌝ }
+    ensures { λ r. ⌜ (r ≡ lowest (topIn (now (h .entry)) - lowIn (now (h .entry))) (branchOf (now (h .entry))) s (lowIn (now (h .entry)))) × (lowIn (now (h .entry)) ≤ r) × (r ≤ topIn (now (h .entry))) ⌝ }
 {
     let top = h[record::TOP];
     let mut level = h[record::LOW];
@@ -101,7 +100,7 @@ pub fn takes(shape: Shape, h: &[u64; 87], s: u64, level: u64) -> bool
 
 // What is to be done to store an interval that starts at s, from the lowest open level with start at or below s.
 pub fn settle(shape: Shape, h: &[u64; 87], s: u64, level: u64) -> Plan
-    requires { ⌜ (level ≡ lowest (getD (now h) 86 0 - getD (now h) 85 0) (branchOf (now h)) s (getD (now h) 85 0)) × (getD (now h) 85 0 ≤ level) × (level ≤ getD (now h) 86 0) × (getD (now h) 86 0 < 16) ⌝ }
+    requires { ⌜ (level ≡ lowest (topIn (now h) - lowIn (now h)) (branchOf (now h)) s (lowIn (now h))) × (lowIn (now h) ≤ level) × (level ≤ topIn (now h)) × (topIn (now h) < 16) ⌝ }
     ensures { λ r. ⌜ r ≡ settle (recordOf shape (now (h .entry))) s ⌝ }
 {
     let last = h[record::LAST_ENDS + level as usize];
@@ -128,7 +127,7 @@ fn count(top: u64, p: Plan) -> u64
 
 // "Depth at most 16", N nodes: depth before room.
 pub fn refusal(shape: Shape, h: &[u64; 87], p: Plan) -> Refusal
-    requires { ⌜ getD (now h) 84 0 ≤ shape .n ⌝ }
+    requires { ⌜ usedIn (now h) ≤ shape .n ⌝ }
     ensures { λ r. ⌜ r ≡ planRefusal (recordOf shape (now (h .entry))) p ⌝ }
 {
     if 15 < p.level {

@@ -8,8 +8,8 @@ use layout::Shape;
 use record::Refusal;
 ghost use mathlib.Core.Path.{_≡_};
 ghost use Prim.Native.Nat.{_+_, _-_, _≤_, _<_};
-ghost use lib.ListN.{getD, length};
-ghost use Rattle.record.specs.Record.{recordOf};
+ghost use lib.ListN.{length};
+ghost use Rattle.record.specs.Record.{recordOf, lowIn, topIn};
 ghost use Rattle.record.specs.Sound.{lastTime};
 ghost use Rattle.record.specs.Firm.{Firm};
 ghost use Rattle.build.specs.Settle.{settle, planRefusal};
@@ -99,7 +99,7 @@ pub fn insert(nodes: &mut [u8], shape: Shape, h: &mut [u64; 87], e: Entry) -> Re
 // "then closes all open nodes with end T"
 pub fn close_all(nodes: &mut [u8], shape: Shape, h: &[u64; 87], t: u64)
     requires { ⌜ Firm (recordOf shape (now h)) × Room (recordOf shape (now h)) (now nodes) ⌝ }
-    ensures { λ _. ⌜ now (nodes .exit) ≡ closeAll (recordOf shape (now (h .entry))) t (getD (now (h .entry)) 86 0 + 1 - getD (now (h .entry)) 85 0) (getD (now (h .entry)) 85 0) (now (nodes .entry)) ⌝ }
+    ensures { λ _. ⌜ now (nodes .exit) ≡ closeAll (recordOf shape (now (h .entry))) t (topIn (now (h .entry)) + 1 - lowIn (now (h .entry))) (lowIn (now (h .entry))) (now (nodes .entry)) ⌝ }
 {
     let mut level = h[record::LOW];
     while level <= h[record::TOP] {

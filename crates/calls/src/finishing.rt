@@ -5,9 +5,9 @@ use layout::Shape;
 use record::Refusal;
 ghost use mathlib.Core.Path.{_≡_};
 ghost use Prim.Native.Nat.{_/_, _≤_};
-ghost use lib.ListN.{getD, length};
+ghost use lib.ListN.{length};
 ghost use Rattle.layout.specs.Layout.{entrySize};
-ghost use Rattle.record.specs.Record.{recordOf};
+ghost use Rattle.record.specs.Record.{recordOf, attributesIn};
 ghost use Rattle.record.specs.Sound.{lastTime};
 ghost use Rattle.record.specs.Firm.{Firm};
 ghost use Rattle.build.specs.Moves.{Room, Turns};
@@ -17,7 +17,7 @@ ghost use Rattle.calls.specs.Finish.{allSound, trial, finishRefusal, sto
 
 // Every entry below the attribute count is read, and all have to be sound.
 fn all_sound(shape: Shape, h: &[u64; 87], table: &[u8]) -> bool
-    requires { ⌜ (getD (now h) 83 0 ≤ length (now table) / entrySize) × (getD (now h) 83 0 ≤ 4096) ⌝ }
+    requires { ⌜ (attributesIn (now h) ≤ length (now table) / entrySize) × (attributesIn (now h) ≤ 4096) ⌝ }
     ensures { λ r. ⌜ r ≡ allSound (recordOf shape (now (h .entry))) (now (table .entry)) ⌝ }
 {
     let n = h[record::ATTRIBUTES] as u32;
@@ -37,8 +37,8 @@ fn all_sound(shape: Shape, h: &[u64; 87], table: &[u8]) -> bool
 // The trial run: "In finish the first interval in quark order that breaks either decides, depth before room." It has the record by value,
 // a copy: nothing is written.
 fn trial(shape: Shape, h: [u64; 87], table: &[u8], t: u64) -> Refusal
-    requires { ⌜ Firm (recordOf shape h) × (getD h 83 0 ≤ length (now table) / entrySize) × (getD h 83 0 ≤ 4096) × (t ≤ lastTime) ⌝ }
-    ensures { λ r. ⌜ r ≡ trial (getD h 83 0) 0 (now (table .entry)) t (recordOf shape h) ⌝ }
+    requires { ⌜ Firm (recordOf shape h) × (attributesIn h ≤ length (now table) / entrySize) × (attributesIn h ≤ 4096) × (t ≤ lastTime) ⌝ }
+    ensures { λ r. ⌜ r ≡ trial (attributesIn h) 0 (now (table .entry)) t (recordOf shape h) ⌝ }
 {
     let n = h[record::ATTRIBUTES] as u32;
     let mut g = h;
@@ -89,8 +89,8 @@ fn store_one(nodes: &mut [u8], shape: Shape, h: &mut [u64; 87], e: Entry, due: u
 
 // "Finish at T stores, in quark order, every ongoing interval with end T."
 fn store_all(nodes: &mut [u8], table: &[u8], shape: Shape, h: &mut [u64; 87], t: u64)
-    requires { ⌜ (length (now h) ≡ 87) × Firm (recordOf shape (now h)) × Room (recordOf shape (now h)) (now nodes) × (getD (now h) 83 0 ≤ length (now table) / entrySize) × (getD (now h) 83 0 ≤ 4096) × (t ≤ lastTime) ⌝ }
-    ensures { λ _. ⌜ Turns shape (now (h .entry)) (now (nodes .entry)) (now (h .exit)) (now (nodes .exit)) (storedFrom (getD (now (h .entry)) 83 0) 0 (now (table .entry)) t) ⌝ }
+    requires { ⌜ (length (now h) ≡ 87) × Firm (recordOf shape (now h)) × Room (recordOf shape (now h)) (now nodes) × (attributesIn (now h) ≤ length (now table) / entrySize) × (attributesIn (now h) ≤ 4096) × (t ≤ lastTime) ⌝ }
+    ensures { λ _. ⌜ Turns shape (now (h .entry)) (now (nodes .entry)) (now (h .exit)) (now (nodes .exit)) (storedFrom (attributesIn (now (h .entry))) 0 (now (table .entry)) t) ⌝ }
 {
     let n = h[record::ATTRIBUTES] as u32;
     let mut q: u32 = 0;

@@ -45,21 +45,42 @@ branchOf w = record {
   «last_ends» = sixteen w 64;
 }
 
+-- then the history's numbers
+abbrev pub startIn : List ℕ → ℕ
+startIn w = getD w 80 0
+
+abbrev pub latestIn : List ℕ → ℕ
+latestIn w = getD w 81 0
+
+abbrev pub largestEndIn : List ℕ → ℕ
+largestEndIn w = getD w 82 0
+
+abbrev pub attributesIn : List ℕ → ℕ
+attributesIn w = getD w 83 0
+
+abbrev pub usedIn : List ℕ → ℕ
+usedIn w = getD w 84 0
+
+abbrev pub lowIn : List ℕ → ℕ
+lowIn w = getD w 85 0
+
+abbrev pub topIn : List ℕ → ℕ
+topIn w = getD w 86 0
+
 -- no level is open
 abbrev pub finishedIn : List ℕ → Bool
-finishedIn w = ltb (getD w 86 0) (getD w 85 0)
+finishedIn w = ltb (topIn w) (lowIn w)
 
--- then the history's numbers
 abbrev pub recordOf : Shape → List ℕ → History
 recordOf s w = record {
   shape = s;
-  start = getD w 80 0;
-  latest = getD w 81 0;
-  «largest_end» = getD w 82 0;
-  attributes = getD w 83 0;
-  used = getD w 84 0;
-  low = getD w 85 0;
-  top = getD w 86 0;
+  start = startIn w;
+  latest = latestIn w;
+  «largest_end» = largestEndIn w;
+  attributes = attributesIn w;
+  used = usedIn w;
+  low = lowIn w;
+  top = topIn w;
   finished = finishedIn w;
   branch = branchOf w;
 }

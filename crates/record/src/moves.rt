@@ -13,7 +13,7 @@ use crate::USED;
 ghost use mathlib.Core.Path.{_≡_};
 ghost use Prim.Native.Nat.{_+_, _≤_, _<_};
 ghost use lib.ListN.{getD, length};
-ghost use Rattle.record.specs.Record.{branchOf, Becomes};
+ghost use Rattle.record.specs.Record.{branchOf, Becomes, attributesIn, usedIn, lowIn, topIn};
 ghost use Rattle.record.specs.Levels.{intervalsAt, childrenAt};
 ghost use Rattle.record.specs.Moves.{levelSet, childSet, closed, raised, made, stored, stretched, atTime, withAttribute, finishedAt};
 
@@ -53,7 +53,7 @@ pub fn stored(h: &mut [u64; 87], level: u64)
 
 // "Closing gives the node .. the end S": the lowest level, under an open one.
 pub fn closed(h: &mut [u64; 87])
-    requires { ⌜ (length (now h) ≡ 87) × (getD (now h) 85 0 < getD (now h) 86 0) × (getD (now h) 86 0 < 16) ⌝ }
+    requires { ⌜ (length (now h) ≡ 87) × (lowIn (now h) < topIn (now h)) × (topIn (now h) < 16) ⌝ }
     ensures { λ _. ⌜ Becomes (now (h .entry)) (now (h .exit)) closed ⌝ }
 {
     let up = h[LOW] + 1;
@@ -63,7 +63,7 @@ pub fn closed(h: &mut [u64; 87])
 
 // "a new root is made first: one level higher, starting at the history's start, with the old root as its only child"
 pub fn raised(h: &mut [u64; 87])
-    requires { ⌜ (length (now h) ≡ 87) × (getD (now h) 85 0 ≤ getD (now h) 86 0) × (getD (now h) 86 0 < 15) × (getD (now h) 84 0 < 4294967295) ⌝ }
+    requires { ⌜ (length (now h) ≡ 87) × (lowIn (now h) ≤ topIn (now h)) × (topIn (now h) < 15) × (usedIn (now h) < 4294967295) ⌝ }
     ensures { λ _. ⌜ Becomes (now (h .entry)) (now (h .exit)) raised ⌝ }
 {
     let up = h[TOP] + 1;
@@ -78,7 +78,7 @@ pub fn raised(h: &mut [u64; 87])
 
 // A node of a chain: the lowest level, one above, gets a new child that starts at start.
 pub fn made(h: &mut [u64; 87], start: u64, level: u64)
-    requires { ⌜ (length (now h) ≡ 87) × (level < getD (now h) 85 0) × (getD (now h) 85 0 ≤ getD (now h) 86 0) × (getD (now h) 86 0 < 16) × (getD (now h) 84 0 < 4294967295) × (childrenAt (branchOf (now h)) (level + 1) < 65535) ⌝ }
+    requires { ⌜ (length (now h) ≡ 87) × (level < lowIn (now h)) × (lowIn (now h) ≤ topIn (now h)) × (topIn (now h) < 16) × (usedIn (now h) < 4294967295) × (childrenAt (branchOf (now h)) (level + 1) < 65535) ⌝ }
     ensures { λ _. ⌜ Becomes (now (h .entry)) (now (h .exit)) (λ g. made g start level) ⌝ }
 {
     level_child(h, level + 1);
@@ -107,7 +107,7 @@ pub fn at_time(h: &mut [u64; 87], t: u64)
 }
 
 pub fn with_attribute(h: &mut [u64; 87])
-    requires { ⌜ (length (now h) ≡ 87) × (getD (now h) 83 0 < 4294967295) ⌝ }
+    requires { ⌜ (length (now h) ≡ 87) × (attributesIn (now h) < 4294967295) ⌝ }
     ensures { λ _. ⌜ Becomes (now (h .entry)) (now (h .exit)) withAttribute ⌝ }
 {
     h[ATTRIBUTES] = h[ATTRIBUTES] + 1;
@@ -115,7 +115,7 @@ pub fn with_attribute(h: &mut [u64; 87])
 
 // "closes all open nodes with end T. T becomes the latest time"
 pub fn finished(h: &mut [u64; 87], t: u64)
-    requires { ⌜ (length (now h) ≡ 87) × (getD (now h) 86 0 < 16) ⌝ }
+    requires { ⌜ (length (now h) ≡ 87) × (topIn (now h) < 16) ⌝ }
     ensures { λ _. ⌜ Becomes (now (h .entry)) (now (h .exit)) (λ g. finishedAt g t) ⌝ }
 {
     h[LATEST] = t;

@@ -15,10 +15,10 @@ use layout::Shape;
 ghost use mathlib.Core.Path.{_≡_};
 ghost use mathlib.Core.Bool.{_&&_, _||_};
 ghost use lib.Dec.{leb, eqb};
-ghost use lib.ListN.{getD, length};
+ghost use lib.ListN.{length};
 ghost use Prim.Native.Nat.{_+_, _-_, _*_, _/_, _≤_, _<_};
 ghost use Rattle.layout.specs.Layout.{nodeSize, entrySize};
-ghost use Rattle.record.specs.Record.{branchOf, finishedIn, recordOf};
+ghost use Rattle.record.specs.Record.{branchOf, finishedIn, recordOf, usedIn, topIn};
 ghost use Rattle.record.specs.Sound.{shapeAllowed, numbersSound, levelSound, apart, levelsSound, startsFall, branchSound, sound, admitted};
 ghost use Rattle.record.specs.Firm.{Shaped};
 
@@ -50,7 +50,7 @@ fn numbers_sound(s: Shape, h: &[u64; 87]) -> bool
 // "open counts within K and C, places below the used count, every open level above 0 has a child"
 fn level_sound(h: &[u64; 87], s: Shape, level: u64) -> bool
     requires { ⌜ level < 16 ⌝ }
-    ensures { λ r. ⌜ r ≡ levelSound (branchOf (now (h .entry))) s (getD (now (h .entry)) 84 0) level ⌝ }
+    ensures { λ r. ⌜ r ≡ levelSound (branchOf (now (h .entry))) s (usedIn (now (h .entry))) level ⌝ }
 {
     let i = level as usize;
     (h[INTERVALS + i] <= s.k as u64)
@@ -78,7 +78,7 @@ fn apart(h: &[u64; 87], level: u64, top: u64) -> bool
 // the open levels
 fn levels_sound(h: &[u64; 87], s: Shape, low: u64, top: u64) -> bool
     requires { ⌜ (low ≤ top) × (top < 16) ⌝ }
-    ensures { λ r. ⌜ r ≡ levelsSound (branchOf (now (h .entry))) s (getD (now (h .entry)) 84 0) low top ⌝ }
+    ensures { λ r. ⌜ r ≡ levelsSound (branchOf (now (h .entry))) s (usedIn (now (h .entry))) low top ⌝ }
 {
     let mut level = low;
     while level <= top {
@@ -118,7 +118,7 @@ fn last_end_sound(end: u64, low: u64, start: u64, latest: u64) -> bool
 
 // "open levels run unbroken up to the root (none once finished) with starts not growing upwards and the root's equal to the history's"
 fn branch_sound(s: Shape, h: &[u64; 87]) -> bool
-    requires { ⌜ getD (now h) 86 0 < 16 ⌝ }
+    requires { ⌜ topIn (now h) < 16 ⌝ }
     ensures { λ r. ⌜ r ≡ branchSound (recordOf s (now (h .entry))) ⌝ }
 {
     let top = h[TOP];
