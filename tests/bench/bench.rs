@@ -143,10 +143,10 @@ fn main() {
         return;
     }
     println!("\nCalls and questions: library / baseline");
-    print(&calls_and_questions(&mut seeded, 2_000), 3);
+    print(&calls_and_questions(&mut seeded, 2_000), 7);
     for (how, lines) in growing(&mut seeded, 1_000) {
         println!("\nHow cost grows {}", how);
-        print(&lines, 3);
+        print(&lines, 7);
     }
     // Their figures stand in the papers: they do not depend on what was drawn before them.
     instead::print(&mut Seeded::case(seed(), 1));
