@@ -17,6 +17,9 @@ use seeded::{seed, Seeded};
 use sides::*;
 use work::*;
 
+/// How often each side of a line takes its turn.
+const TURNS: usize = 21;
+
 /// What is made and timed: a table's line.
 struct Line {
     name: String,
@@ -116,7 +119,7 @@ fn growing(seeded: &mut Seeded, scale: u32) -> Vec<(&'static str, Vec<Line>)> {
     }
     for count in [1, 16, 256, 4_096] {
         let name = format!("finish, K 2,028, attributes: {}", count);
-        attributes.push(line(&name, finishes(count, (scale * 40 / (count + 100) + 1) as usize)));
+        attributes.push(line(&name, finishes(count, (scale * 400 / (count + 100) + 1) as usize)));
     }
     vec![("with the depth", depth), ("with K", nodes), ("with the attributes", attributes)]
 }
@@ -125,10 +128,10 @@ fn print(lines: &[Line], turns: usize) {
     println!("  {:38} {:>12} {:>12} {:>8}", "nanoseconds a call", "library", "baseline", "ratio");
     for Line { name, work } in lines {
         let (mut ours, mut theirs) = compare(name, work);
-        let (library, baseline) = times(work, &mut ours, &mut theirs, turns);
+        let (library, baseline, ratio) = times(work, &mut ours, &mut theirs, turns);
         let refused = (work.built..work.calls()).filter(|&call| ours.refusal(call) != 0).count();
         let word = if refused > 0 { format!("   {} of {} refused", refused, work.calls() - work.built) } else { String::new() };
-        println!("  {:38} {:12.0} {:12.0} {:8.2}{}", name, library, baseline, library / baseline, word);
+        println!("  {:38} {:12.0} {:12.0} {:8.2}{}", name, library, baseline, ratio, word);
     }
 }
 
@@ -143,10 +146,10 @@ fn main() {
         return;
     }
     println!("\nCalls and questions: library / baseline");
-    print(&calls_and_questions(&mut seeded, 2_000), 7);
-    for (how, lines) in growing(&mut seeded, 1_000) {
+    print(&calls_and_questions(&mut seeded, 1_000), TURNS);
+    for (how, lines) in growing(&mut seeded, 500) {
         println!("\nHow cost grows {}", how);
-        print(&lines, 7);
+        print(&lines, TURNS);
     }
     // Their figures stand in the papers: they do not depend on what was drawn before them.
     instead::print(&mut Seeded::case(seed(), 1));

@@ -156,25 +156,31 @@ fn nanoseconds<T>(run: impl FnOnce() -> T) -> f64 {
     from.elapsed().as_nanos() as f64
 }
 
-/// Nanoseconds for each call behind the built ones, of the library and of the baseline: the best of several turns.
-pub fn times(work: &Work, ours: &mut Lent, theirs: &mut Lent, turns: usize) -> (f64, f64) {
-    let (mut library_best, mut baseline_best) = (f64::MAX, f64::MAX);
+fn median(mut times: Vec<f64>) -> f64 {
+    times.sort_by(f64::total_cmp);
+    times[times.len() / 2]
+}
+
+/// Nanoseconds for each call behind the built ones, of the library and of the baseline, and what the one is of the other: the medians of
+/// several turns. In each turn one comes right behind the other, so that whatever slows the machine for a while slows both.
+pub fn times(work: &Work, ours: &mut Lent, theirs: &mut Lent, turns: usize) -> (f64, f64, f64) {
+    let (mut libraries, mut baselines) = (Vec::new(), Vec::new());
     // The buffers are as the whole script left them: of a finished history, its nodes.
     let history = played(work, work.built, theirs).expect("compared before");
     let said = ours.said.clone();
     for _ in 0..turns {
         if history.finished {
-            library_best = library_best.min(nanoseconds(|| library_asked(work, &history, ours)));
+            libraries.push(nanoseconds(|| library_asked(work, &history, ours)));
             let mut asked = history.clone();
-            baseline_best = baseline_best.min(nanoseconds(|| carry_out(&mut asked, work, work.built, work.calls(), theirs)));
+            baselines.push(nanoseconds(|| carry_out(&mut asked, work, work.built, work.calls(), theirs)));
         } else {
-            // Opening and building are timed alone, and taken off.
+            // Opening and building are timed alone, and taken off; where there is nothing else, they are what is timed.
             let built = nanoseconds(|| library(work, work.built, ours));
             let whole = nanoseconds(|| library(work, work.calls(), ours));
-            library_best = library_best.min(if work.calls() > work.built { whole - built } else { whole });
+            libraries.push(if work.calls() > work.built { whole - built } else { whole });
             let built = nanoseconds(|| played(work, work.built, theirs));
             let whole = nanoseconds(|| played(work, work.calls(), theirs));
-            baseline_best = baseline_best.min(if work.calls() > work.built { whole - built } else { whole });
+            baselines.push(if work.calls() > work.built { whole - built } else { whole });
         }
     }
     if ours.said != said {
@@ -182,5 +188,6 @@ pub fn times(work: &Work, ours: &mut Lent, theirs: &mut Lent, turns: usize) -> (
         std::process::exit(1);
     }
     let timed = (work.calls() - work.built).max(1) as f64;
-    (library_best / timed, baseline_best / timed)
+    let ratios = libraries.iter().zip(&baselines).map(|(library, baseline)| library / baseline).collect();
+    (median(libraries) / timed, median(baselines) / timed, median(ratios))
 }

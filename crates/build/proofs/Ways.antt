@@ -2,20 +2,22 @@
 use Prim.Native.Nat.{ℕ, zero, suc, _+_, _-_, _<_, _≤_}
 use native.Mathlib.Nat.{zero-add}
 use native.Mathlib.Omega.{arith}
-use mathlib.Core.Path.{_≡_}
-use mathlib.Core.Bool.{Bool, true, false, not, _&&_}
+use mathlib.Core.Path.{_≡_, refl, sym, ap, _∙_, subst}
+use mathlib.Core.Bool.{Bool, true, false, cond, not, _&&_}
 use mathlib.Core.List.{List}
+use mathlib.Core.Logic.{_⊎_, inl, inr, ⊎-elim}
 use lib.Dec.{ltb}
 use lib.ListN.{getD}
 use borrow.Author.Tests.{le-ltb, lt-ltb, le-leb, lt-leb}
 use Rattle.layout.specs.declared.Shape.{Shape}
 use Rattle.record.specs.Record.{Branch, History, branchOf, recordOf}
+use Rattle.record.specs.Levels.{childrenAt}
 use Rattle.record.proofs.Lies.{start-lies, intervals-lie, children-lie, last-end-lies}
 use Rattle.record.specs.declared.Refusal.the-variants.{Nothing, Deep, NoRoom}
 use Rattle.build.specs.declared.Plan.{Plan}
 use Rattle.build.specs.declared.settle.Verdict.{Verdict}
 use Rattle.build.specs.declared.settle.Verdict.the-variants.{Here, Chain, Close}
-use Rattle.build.specs.Settle.{ruled, followed, askUp, lowest, settle, needed, planRefusal}
+use Rattle.build.specs.Settle.{fits, ruled, plan, followed, askUp, lowest, settle, needed, planRefusal}
 
 -- ═══ Rules 1 and 2, as they are read in the array ═══
 
@@ -61,9 +63,56 @@ module _ (h : History) (s l : ℕ) (child : Bool) (last n : ℕ) (v : Verdict) (
   unfolding askUp followed
   upward r e le ne f = let z : h .top - l ≡ suc (h .top - (l + 1)) = omega arith in simp (z, ← said, e, f)
 
+  -- the level alone, which is the same however many levels are said to be closed before
+  pub level-upward : (r : ℕ) → v ≡ Close → l ≤ h .top → (l ≡ h .top → ⊥) → ((m : ℕ) → r ≡ askUp (h .top - (l + 1)) h s (l + 1) false (h .«largest_end») m .level) → r ≡ askUp (h .top - l) h s l child last n .level
+  level-upward r e le ne f = f (l + 1 - h .low) ∙ ap (λ (p : Plan). p .level) (upward _ e le ne refl)
+
 -- the parent is an open level too, and fewer are above it
 pub fewer : (top low l t : ℕ) → top - l ≡ t → (low ≤ l) × (l ≤ top) × (top < 16) → (l ≡ top → ⊥) → (top - (l + 1) < t) × ((low ≤ l + 1) × (l + 1 ≤ top) × (top < 16))
 fewer top low l t e p ne = (omega (arith, p .1, ne), (omega (arith, p .0), omega (arith, p .1, ne), p .2))
+
+-- ═══ The plan that belongs to the level at which the question ends ═══
+
+module _ (h : History) (s : ℕ) where
+  -- its level is above l: all below that level closes, so its last child's end is S, and it grows a chain where s is after S
+  abbrev Above : ℕ → Plan → Type 0
+  Above l p = (l < p .level) × (p ≡ plan (p .level - h .low) (p .level) (ltb (h .«largest_end») s))
+
+  -- level l grows a chain where a child is due and stores where none is, or it closes
+  abbrev Ends : ℕ → ℕ → Bool → Plan → Type 0
+  Ends l n due p = (p ≡ plan n l due) ⊎ Above l p
+
+  followed-ends : (due few room : Bool) (l n : ℕ) (up : Plan) → Above l up → Ends l n due (followed (cond due (cond few Chain Close) (cond room Here Close)) l n up)
+  unfolding followed
+  followed-ends true true room l n up above = inl refl
+  followed-ends true false room l n up above = inr above
+  followed-ends false few true l n up above = inl refl
+  followed-ends false few false l n up above = inr above
+
+  ruled-ends : (l : ℕ) (child : Bool) (last n : ℕ) (up : Plan) → Above l up → Ends l n (not child && ltb 0 l && ltb last s) (followed (ruled (h .branch) (h .shape) s l child last) l n up)
+  unfolding ruled
+  ruled-ends l child last n up = followed-ends (not child && ltb 0 l && ltb last s) (ltb (childrenAt (h .branch) l) (h .shape .c)) (fits (h .branch) (h .shape) l) l n up
+
+  ask-ends : (left l : ℕ) (child : Bool) (last n : ℕ) → Ends l n (not child && ltb 0 l && ltb last s) (askUp left h s l child last n)
+  unfolding askUp
+  ask-ends zero l child last n = ruled-ends l child last n _ (omega arith, refl)
+  ask-ends (suc left) l child last n =
+      ruled-ends l child last n _
+      (⊎-elim
+      (λ e. subst (Above l) (sym e) (omega arith, simp (lt-ltb 0 (l + 1) (omega arith))))
+      (λ above. (omega (arith, above .0), above .1))
+      (ask-ends left (l + 1) false (h .«largest_end») (l + 1 - h .low)))
+
+  -- t is the level to which the question comes that is put to level l, where nothing is closed yet
+  module _ (left l : ℕ) (child : Bool) (last t : ℕ) (told : t ≡ askUp left h s l child last 0 .level) where
+    pub no-lower : l ≤ t
+    no-lower = ⊎-elim (λ e. omega (arith, ap (λ (p : Plan). p .level) e)) (λ above. omega (arith, above .0)) (ask-ends left l child last 0)
+
+    pub stays : t ≡ l → plan 0 l (not child && ltb 0 l && ltb last s) ≡ askUp left h s l child last 0
+    stays same = ⊎-elim sym (λ above. absurd (omega (arith, above .0))) (ask-ends left l child last 0)
+
+    pub goes-up : (t ≡ l → ⊥) → plan (t - h .low) t (ltb (h .«largest_end») s) ≡ askUp left h s l child last 0
+    goes-up other = ⊎-elim (λ e. absurd (other (told ∙ ap (λ (p : Plan). p .level) e))) (λ above. rw told (sym (above .1))) (ask-ends left l child last 0)
 
 -- ═══ The search for the lowest level, from l on ═══
 

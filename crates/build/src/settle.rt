@@ -3,7 +3,7 @@ use crate::Plan;
 use layout::Shape;
 use record::Refusal;
 ghost use mathlib.Core.Path.{_≡_};
-ghost use Prim.Native.Nat.{_+_, _-_, _≤_, _<_};
+ghost use Prim.Native.Nat.{ℕ, _-_, _≤_, _<_};
 ghost use Rattle.record.specs.Record.{branchOf, recordOf, usedIn, lowIn, topIn};
 ghost use Rattle.build.specs.Settle.{ruled, askUp, lowest, taken, settle, needed, planRefusal};
 
@@ -33,40 +33,26 @@ fn rule(shape: Shape, h: &[u64; 87], s: u64, level: u64, child: bool, last: u64)
     Verdict::Close
 }
 
-// "Then the same question is put again to the parent": the number of open levels left falls.
-fn ask(shape: Shape, h: &[u64; 87], s: u64, level: u64, child: bool, last: u64, closes: u64) -> Plan
+// "Then the same question is put again to the parent": the number of open levels left falls. Tells the level that stores or grows the chain, one above the
+// root's for a new root. Beside the lent record numbers alone go in and out: a struct would be copied at every level.
+fn ask(k: u32, c: u32, n: u32, h: &[u64; 87], s: u64, level: u64, child: bool, last: u64) -> u64
     requires { ⌜ (lowIn (now h) ≤ level) × (level ≤ topIn (now h)) × (topIn (now h) < 16) ⌝ }
-    ensures { λ r. ⌜ r ≡ askUp (topIn (now (h .entry)) - level) (recordOf shape (now (h .entry))) s level child last closes ⌝ }
+    ensures { λ r. ⌜ ((closes : ℕ) → r ≡ askUp (topIn (now (h .entry)) - level) (recordOf (record { k = k; c = c; n = n }) (now (h .entry))) s level child last closes .level) ⌝ }
 {
-    let v = rule(shape, h, s, level, child, last);
+    let v = rule(Shape { k: k, c: c, n: n }, h, s, level, child, last);
     match v {
         Verdict::Here => {
-            return Plan {
-                closes: closes,
-                level: level,
-                chain: false,
-            };
+            return level;
         }
         Verdict::Chain => {
-            return Plan {
-                closes: closes,
-                level: level,
-                chain: true,
-            };
+            return level;
         }
         Verdict::Close => {}
     }
-    let up = level + 1;
-    let gone = up - h[record::LOW];
-    let ended = h[record::LARGEST_END]; // "Closing gives the node .. the end S", and it is the parent's last child
     if level == h[record::TOP] {
-        return Plan {
-            closes: gone,
-            level: up,
-            chain: ended < s,
-        };
+        return level + 1;
     }
-    ask(shape, h, s, up, false, ended, gone)
+    ask(k, c, n, h, s, level + 1, false, h[record::LARGEST_END]) // "Closing gives the node .. the end S", and it is the parent's last child
 }
 
 // The lowest open level with start at or below s, or the root's.
@@ -103,9 +89,24 @@ pub fn settle(shape: Shape, h: &[u64; 87], s: u64, level: u64) -> Plan
     requires { ⌜ (level ≡ lowest (topIn (now h) - lowIn (now h)) (branchOf (now h)) s (lowIn (now h))) × (lowIn (now h) ≤ level) × (level ≤ topIn (now h)) × (topIn (now h) < 16) ⌝ }
     ensures { λ r. ⌜ r ≡ settle (recordOf shape (now (h .entry))) s ⌝ }
 {
+    let low = h[record::LOW];
     let last = h[record::LAST_ENDS + level as usize];
-    let child = h[record::LOW] < level;
-    ask(shape, h, s, level, child, last, 0)
+    let child = low < level;
+    let taker = ask(shape.k, shape.c, shape.n, h, s, level, child, last);
+    if taker == level {
+        // nothing closes: by rule 1 it grows a chain where a child is due, else by rule 2 it stores
+        return Plan {
+            closes: 0,
+            level: level,
+            chain: !child & (0 < level) & (last < s),
+        };
+    }
+    // the levels below it close, and its last child ends at S: by rule 1 it grows a chain where s is after that, else by rule 2 it stores
+    Plan {
+        closes: taker - low,
+        level: taker,
+        chain: h[record::LARGEST_END] < s,
+    }
 }
 
 // "Depth and room count what the rule would need": the new nodes of a plan.

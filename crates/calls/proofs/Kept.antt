@@ -17,8 +17,8 @@ use Rattle.transient.specs.declared.Decision.{Decision}
 use Rattle.transient.specs.declared.Decision.the-variants as D
 use Rattle.transient.specs.Transient.{begins, ongoingAt, interval, withOngoing, decide}
 use Rattle.transient.proofs.Table.{length-with}
-use Rattle.build.specs.Moves.{held}
-use Rattle.build.specs.Write.{closeAll, planted}
+use Rattle.build.specs.Moves.{Held, held}
+use Rattle.build.specs.Write.{inserted, closeAll, planted}
 use Rattle.build.proofs.Steps.{inserted-length, close-all-length, planted-length}
 use Rattle.calls.specs.Outcome.{Outcome, Comes, answered, outcome, orRefused}
 use Rattle.calls.specs.Exactly.{Given, Iff}
@@ -28,7 +28,6 @@ use Rattle.calls.specs.Add.{addTests, addRefusal, addOf}
 use Rattle.calls.specs.Finish.{trial, finishTests, finishRefusal, storedFrom, finishOf}
 use Rattle.calls.proofs.Refused.{on-false, accepted-nothing}
 use Rattle.calls.proofs.Exactly.{exactly, exactly-else}
-use Rattle.calls.proofs.Finishes.{stored-length}
 use Rattle.calls.proofs.Settled.{record-settles}
 
 -- ---- of any call
@@ -177,6 +176,13 @@ module _ (h : History) (nodes table : List ℕ) where
   add-exactly r = by _ (addRefusal h (length nodes) (length table)) r _ add-says (exactly (addTests h (length nodes) (length table)) r)
 
 -- ---- finish
+
+pub stored-length : (n q : ℕ) (table : List ℕ) (t : ℕ) (σ : Held) → length (storedFrom n q table t σ .nodes) ≡ length (σ .nodes)
+unfolding storedFrom
+stored-length zero q table t σ = refl
+stored-length (suc n) q table t σ =
+    stored-length n (q + 1) table t (inserted (interval (record { 0 = q }) (ongoingAt table q) t) σ)
+    ∙ inserted-length (interval (record { 0 = q }) (ongoingAt table q) t) σ
 
 module _ (h : History) (t : ℕ) (nodes table : List ℕ) where
   abbrev finishes : Outcome

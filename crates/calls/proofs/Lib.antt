@@ -2,8 +2,6 @@ pub mod Refused
 pub mod Openings
 pub mod Changes
 pub mod Additions
-pub mod Due
-pub mod Finishes
 pub mod Exactly
 pub mod Settled
 pub mod Kept

@@ -1,5 +1,5 @@
 -- Finish. Document 01: "finish 3 record, 2, 4, 3 entries, 6, 5, 10, 11".
-use Prim.Native.Nat.{ℕ, zero, suc, _+_, _-_, _≤_, _<_}
+use Prim.Native.Nat.{ℕ, zero, suc, _+_, _-_}
 use mathlib.Core.Bool.{Bool, cond, not}
 use mathlib.Core.List.{List, [], _∷_}
 use lib.Dec.{ltb}
@@ -11,7 +11,7 @@ use Rattle.record.specs.Refusals.{firstElse, accepted}
 use Rattle.record.specs.Sound.{lastTime, sound, longEnough, all}
 use Rattle.record.specs.Moves.{finishedAt}
 use Rattle.transient.specs.Transient.{ongoingAt, ongoingSound, interval}
-use Rattle.build.specs.Moves.{Held, held, openEnd, putHead}
+use Rattle.build.specs.Moves.{Held, held}
 use Rattle.build.specs.Write.{inserted, closeAll}
 use Rattle.build.specs.Trial.{tried}
 use Rattle.calls.specs.Outcome.{Outcome, answered, outcome, orRefused}
@@ -54,13 +54,3 @@ finishOf h t nodes table =
     let g = σ .history in
     orRefused (finishRefusal h t (length nodes) table) h nodes table
     (outcome (answered Nothing (finishedAt g t)) (closeAll g t (g .top + 1 - g .low) (g .low) (σ .nodes)) table)
-
--- ═══ One header for a run of intervals that go into one node ═══
-
--- the level whose header is still to be written is open; 16 is no level
-abbrev pub Due : History → ℕ → Type 0
-Due h due = due < 16 → (h .low ≤ due) × (due ≤ h .top)
-
--- the nodes with that header written
-unfoldable pub caughtUp : History → ℕ → List ℕ → List ℕ
-caughtUp h due b = cond (ltb due 16) (putHead h due openEnd 1 b) b

@@ -121,7 +121,7 @@ fn call(
             calls::changing::increment(shape, h, t, quark, nodes, table),
         ),
         Record::Add => after(shape, calls::adding::add(shape, h, nodes, table)),
-        Record::Finish { t } => after(shape, calls::finishing::finish(shape, h, t, nodes, table)),
+        Record::Finish { t } => after(shape, finishing::finish(shape, h, t, nodes, table)),
         Record::Single { t, quark } => Done {
             state: s,
             shown: Shown::One(questions::one::single(shape, h, t, quark, nodes, table)),

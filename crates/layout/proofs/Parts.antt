@@ -1,6 +1,6 @@
 -- A header's, a child entry's and an interval entry's bytes: how many they are, and the stores one after the other that write them. Assumes nothing.
 use Prim.Native.Nat.{ℕ, suc, _+_, _-_, _*_, _≤_, _^_, _<_}
-use mathlib.Core.Path.{_≡_, sym, ap, _∙_}
+use mathlib.Core.Path.{_≡_, ap, _∙_}
 use mathlib.Core.List.{List, _++_, append-assoc}
 use native.Mathlib.Nat.{suc-mul, mul-le-mul-right}
 use native.Mathlib.Omega.{arith}
@@ -11,7 +11,7 @@ use mir.Val.{toZ, ofZ}
 use lib.IntN.{ℤ}
 use Rattle.words.specs.Words.{le, num}
 use Rattle.words.proofs.Stores.{sets-append}
-use Rattle.words.proofs.Numbers.{length-le, le-wide}
+use Rattle.words.proofs.Numbers.{length-le, le-join, le-wide}
 use Rattle.layout.specs.declared.Shape.{Shape}
 use Rattle.layout.specs.declared.Header.{Header}
 use Rattle.layout.specs.declared.Child.{Child}
@@ -64,36 +64,28 @@ module _ (s : Shape) where
 
 -- ---- the stores, each into the list that the one before it left
 
-pub bounds-put : (l l₁ l₂ l₃ l₄ : List ℕ) (h : Header)
+-- counts, level, state and two zero bytes are put as one number of eight bytes
+pub counts-word : (h : Header) → h .intervals < 2 ^ 16 → h .children < 2 ^ 16 → h .level < 2 ^ 8 → h .state < 2 ^ 8
+    → le 8 (h .intervals + 65536 * h .children + 4294967296 * (h .level + 256 * h .state)) ≡ counts h
+unfolding counts
+counts-word h i c v t =
+    let w : le 3 (h .state) ≡ le 1 (h .state) ++ le 2 0 = le-wide 1 2 (h .state) t in
+    let n : le 4 (h .intervals + 65536 * h .children) ≡ le 2 (h .intervals) ++ le 2 (h .children) = le-join 2 2 (h .intervals) (h .children) i in
+    let m : le 4 (h .level + 256 * h .state) ≡ le 1 (h .level) ++ le 3 (h .state) = le-join 1 3 (h .level) (h .state) v in
+    le-join 4 4 (h .intervals + 65536 * h .children) (h .level + 256 * h .state) (omega arith)
+    ∙ rw (n, m, w, append-assoc)
+
+pub header-put : (l l₁ l₂ l₃ l₄ : List ℕ) (h : Header) (v w : ℕ)
     → l₁ ≡ sets l 0 (le 8 (h .start))
     → l₂ ≡ sets l₁ 8 (le 8 (h .end))
-    → l₃ ≡ sets l₂ 16 (le 4 (h .sequence .0))
-    → l₄ ≡ sets l₃ 20 (le 4 (h .parent .0))
-    → l₄ ≡ sets l 0 (bounds h)
-unfolding bounds
-bounds-put l l₁ l₂ l₃ l₄ h p₁ p₂ p₃ p₄ =
-    let e : sets l 0 (bounds h) ≡ sets (sets (sets (sets l 0 (le 8 (h .start))) 8 (le 8 (h .end))) 16 (le 4 (h .sequence .0))) 20 (le 4 (h .parent .0)) = simp (sets-append, length-le) in
-    cc e
-
--- state and two zero bytes are put as one number of three bytes
-pub counts-put : (l l₁ l₂ l₃ l₄ : List ℕ) (h : Header)
-    → h .state < 2 ^ 8
-    → l₁ ≡ sets l 24 (le 2 (h .intervals))
-    → l₂ ≡ sets l₁ 26 (le 2 (h .children))
-    → l₃ ≡ sets l₂ 28 (le 1 (h .level))
-    → l₄ ≡ sets l₃ 29 (le 3 (h .state))
-    → l₄ ≡ sets l 24 (counts h)
-unfolding counts
-counts-put l l₁ l₂ l₃ l₄ h f p₁ p₂ p₃ p₄ =
-    let w : le 3 (h .state) ≡ le 1 (h .state) ++ le 2 0 = le-wide 1 2 (h .state) f in
-    let e : sets l 24 (le 2 (h .intervals) ++ (le 2 (h .children) ++ (le 1 (h .level) ++ le 3 (h .state)))) ≡ sets (sets (sets (sets l 24 (le 2 (h .intervals))) 26 (le 2 (h .children))) 28 (le 1 (h .level))) 29 (le 3 (h .state)) = simp (sets-append, length-le) in
-    let d : sets l 24 (counts h) ≡ sets l 24 (le 2 (h .intervals) ++ (le 2 (h .children) ++ (le 1 (h .level) ++ le 3 (h .state)))) = rw w in
-    cc (e, d)
-
-pub header-put : (l l₁ l₂ : List ℕ) (h : Header) → l₁ ≡ sets l 0 (bounds h) → l₂ ≡ sets l₁ 24 (counts h) → l₂ ≡ sets l 0 (headerBytes h)
-unfolding headerBytes
-header-put l l₁ l₂ h p₁ p₂ =
-    let e : sets l 0 (bounds h ++ counts h) ≡ sets (sets l 0 (bounds h)) 24 (counts h) = simp (sets-append, length-bounds) in
+    → le 8 v ≡ le 4 (h .sequence .0) ++ le 4 (h .parent .0)
+    → l₃ ≡ sets l₂ 16 (le 8 v)
+    → le 8 w ≡ counts h
+    → l₄ ≡ sets l₃ 24 (le 8 w)
+    → l₄ ≡ sets l 0 (headerBytes h)
+unfolding headerBytes bounds
+header-put l l₁ l₂ l₃ l₄ h v w p₁ p₂ q₃ p₃ q₄ p₄ =
+    let e : sets l 0 (headerBytes h) ≡ sets (sets (sets (sets l 0 (le 8 (h .start))) 8 (le 8 (h .end))) 16 (le 4 (h .sequence .0) ++ le 4 (h .parent .0))) 24 (counts h) = simp (sets-append, length-append, length-le) in
     cc e
 
 -- a header and zeros behind it
@@ -111,25 +103,25 @@ child-put l l₁ l₂ at c p₁ p₂ =
     let e : sets l at (childBytes c) ≡ sets (sets l at (le 4 (c .sequence .0))) (at + 4) (le 8 (c .start)) = simp (sets-append, length-le) in
     cc e
 
--- kind and three zero bytes are put as one number of four bytes
-pub entry-put : (l l₁ l₂ l₃ l₄ l₅ : List ℕ) (at v : ℕ) (x : Entry)
+-- quark, kind and three zero bytes are put as one number of eight bytes
+pub entry-put : (l l₁ l₂ l₃ l₄ : List ℕ) (at v : ℕ) (x : Entry)
+    → x .quark .0 < 2 ^ 32
     → x .kind < 2 ^ 8
-    → l₁ ≡ sets l at (le 4 (x .quark .0))
-    → l₂ ≡ sets l₁ (at + 4) (le 4 (x .kind))
-    → l₃ ≡ sets l₂ (at + 8) (le 8 (x .start))
-    → l₄ ≡ sets l₃ (at + 16) (le 8 (x .end))
+    → l₁ ≡ sets l at (le 8 (x .quark .0 + 4294967296 * x .kind))
+    → l₂ ≡ sets l₁ (at + 8) (le 8 (x .start))
+    → l₃ ≡ sets l₂ (at + 16) (le 8 (x .end))
     → v ≡ ofZ w64 (x .value)
-    → l₅ ≡ sets l₄ (at + 24) (le 8 v)
-    → l₅ ≡ sets l at (entryBytes x)
+    → l₄ ≡ sets l₃ (at + 24) (le 8 v)
+    → l₄ ≡ sets l at (entryBytes x)
 unfolding entryBytes
-entry-put l l₁ l₂ l₃ l₄ l₅ at v x f p₁ p₂ p₃ p₄ q p₅ =
-    let w : le 4 (x .kind) ≡ le 1 (x .kind) ++ le 3 0 = le-wide 1 3 (x .kind) f in
+entry-put l l₁ l₂ l₃ l₄ at v x f g p₁ p₂ p₃ q p₄ =
+    let n : ℕ = x .quark .0 + 4294967296 * x .kind in
+    let w : le 8 n ≡ le 4 (x .quark .0) ++ (le 1 (x .kind) ++ le 3 0) = le-join 4 4 (x .quark .0) (x .kind) f ∙ ap (λ (z : List ℕ). le 4 (x .quark .0) ++ z) (le-wide 1 3 (x .kind) g) in
     let rest : List ℕ = le 8 (x .start) ++ (le 8 (x .end) ++ le 8 (ofZ w64 (x .value))) in
-    let d : entryBytes x ≡ le 4 (x .quark .0) ++ (le 4 (x .kind) ++ rest) = ap (λ (z : List ℕ). le 4 (x .quark .0) ++ z) (sym (append-assoc (le 1 (x .kind)) (le 3 0) rest) ∙ ap (λ (z : List ℕ). z ++ rest) (sym w)) in
-    let i : at + 4 + 4 ≡ at + 8 = omega arith in
+    let d : entryBytes x ≡ le 8 n ++ rest = rw w (simp append-assoc) in
     let j : at + 8 + 8 ≡ at + 16 = omega arith in
     let k : at + 16 + 8 ≡ at + 24 = omega arith in
-    let e : sets l at (le 4 (x .quark .0) ++ (le 4 (x .kind) ++ rest)) ≡ sets (sets (sets (sets (sets l at (le 4 (x .quark .0))) (at + 4) (le 4 (x .kind))) (at + 8) (le 8 (x .start))) (at + 16) (le 8 (x .end))) (at + 24) (le 8 (ofZ w64 (x .value))) = simp (sets-append, length-le, i, j, k) in
+    let e : sets l at (le 8 n ++ rest) ≡ sets (sets (sets (sets l at (le 8 n)) (at + 8) (le 8 (x .start))) (at + 16) (le 8 (x .end))) (at + 24) (le 8 (ofZ w64 (x .value))) = simp (sets-append, length-le, j, k) in
     cc (e, d)
 
 -- ---- a header and a child entry read

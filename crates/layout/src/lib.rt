@@ -5,7 +5,8 @@ ghost use mathlib.Core.List.{_++_};
 ghost use Prim.Native.Nat.{_+_, _-_, _≤_};
 ghost use lib.ListN.{length, replicate};
 ghost use lib.Seq.{sets};
-ghost use Rattle.layout.specs.Layout.{headerSize, childSize, entrySize, nodeSize, childAt, entryAt, bounds, counts, headerBytes, childBytes, entryBytes, readHeader, readChild, readEntry, encode, newNode};
+ghost use Rattle.words.specs.Words.{le};
+ghost use Rattle.layout.specs.Layout.{headerSize, childSize, entrySize, nodeSize, childAt, entryAt, counts, headerBytes, childBytes, entryBytes, readHeader, readChild, readEntry, encode, newNode};
 
 // "A quark and a node's sequence number count separate things": a quark names an attribute, a sequence number a node.
 pub struct Quark(pub u32);
@@ -80,24 +81,22 @@ pub fn entry_at(s: Shape, i: u32) -> usize
 
 // ---- writing
 
-fn write_bounds(s: &mut [u8], h: Header)
-    requires { ⌜ headerSize ≤ length (now s) ⌝ }
-    ensures { λ _. ⌜ now (s .exit) ≡ sets (now (s .entry)) 0 (bounds h) ⌝ }
+// A header and an interval entry are written as whole words of eight bytes: a word can be one store, its fields one by one are several.
+
+// A header's sequence and parent as one word.
+fn name_word(h: Header) -> u64
+    ensures { λ r. ⌜ le 8 r ≡ le 4 (h .sequence .0) ++ le 4 (h .parent .0) ⌝ }
 {
-    words::put(s, 0, 8, h.start);
-    words::put(s, 8, 8, h.end);
-    words::put(s, 16, 4, h.sequence.0 as u64);
-    words::put(s, 20, 4, h.parent.0 as u64);
+    h.sequence.0 as u64 + 4294967296 * (h.parent.0 as u64)
 }
 
-fn write_counts(s: &mut [u8], h: Header)
-    requires { ⌜ headerSize ≤ length (now s) ⌝ }
-    ensures { λ _. ⌜ now (s .exit) ≡ sets (now (s .entry)) 24 (counts h) ⌝ }
+// The rest of a header as one word: the counts, the level, the state and the two zero bytes.
+fn counts_word(h: Header) -> u64
+    ensures { λ r. ⌜ le 8 r ≡ counts h ⌝ }
 {
-    words::put(s, 24, 2, h.intervals as u64);
-    words::put(s, 26, 2, h.children as u64);
-    words::put(s, 28, 1, h.level as u64);
-    words::put(s, 29, 3, h.state as u64);
+    h.intervals as u64
+        + 65536 * (h.children as u64)
+        + 4294967296 * (h.level as u64 + 256 * (h.state as u64))
 }
 
 // Writes a header at the front of a node's stretch.
@@ -105,8 +104,10 @@ pub fn write_header(s: &mut [u8], h: Header)
     requires { ⌜ headerSize ≤ length (now s) ⌝ }
     ensures { λ _. ⌜ now (s .exit) ≡ sets (now (s .entry)) 0 (headerBytes h) ⌝ }
 {
-    write_bounds(s, h);
-    write_counts(s, h);
+    words::put(s, 0, 8, h.start);
+    words::put(s, 8, 8, h.end);
+    words::put(s, 16, 8, name_word(h));
+    words::put(s, 24, 8, counts_word(h));
 }
 
 // Writes the header of the node that stands at index at of the node buffer.
@@ -131,8 +132,7 @@ pub fn put_entry(b: &mut [u8], at: usize, e: Entry)
     requires { ⌜ at + entrySize ≤ length (now b) ⌝ }
     ensures { λ _. ⌜ now (b .exit) ≡ sets (now (b .entry)) at (entryBytes e) ⌝ }
 {
-    words::put(b, at, 4, e.quark.0 as u64);
-    words::put(b, at + 4, 4, e.kind as u64);
+    words::put(b, at, 8, e.quark.0 as u64 + 4294967296 * (e.kind as u64));
     words::put(b, at + 8, 8, e.start);
     words::put(b, at + 16, 8, e.end);
     words::put(b, at + 24, 8, words::bits(e.value));

@@ -1,5 +1,5 @@
 -- One call of the script: what is said to it, and each way through it. Assumes nothing.
-use Prim.Native.Nat.{ℕ, _+_}
+use Prim.Native.Nat.{ℕ, _+_, _*_, _^_, _<_}
 use mathlib.Core.Path.{_≡_, refl, sym, ap, _∙_}
 use mathlib.Core.Bool.{Bool, true, false, cond}
 use mathlib.Core.List.{List, _++_}
@@ -11,7 +11,7 @@ use lib.Seq.{sets}
 use borrow.Author.Tests.{eq-eqb, ne-eqb}
 use Rattle.words.specs.Words.{le}
 use Rattle.words.proofs.Stores.{sets-append}
-use Rattle.words.proofs.Numbers.{length-le}
+use Rattle.words.proofs.Numbers.{length-le, le-join}
 use Rattle.layout.specs.declared.Entry.{Entry}
 use Rattle.layout.specs.declared.Shape.{Shape}
 use Rattle.layout.specs.Layout.{entryBytes}
@@ -31,17 +31,19 @@ use Rattle.measure.specs.Measure.{slot, callOf, State, state, asksOne, a
 
 -- ---- what is said
 
-pub slot-put : (l l₁ l₂ l₃ : List ℕ) (at : ℕ) (r : Refusal) (v nodes : ℕ) (e : Entry)
+-- the refusal's number and the nodes entered are put as one number of eight bytes
+pub slot-put : (l l₁ l₂ : List ℕ) (at : ℕ) (r : Refusal) (v nodes : ℕ) (e : Entry)
+    → v < 2 ^ 32
     → v ≡ numberOf r
-    → l₁ ≡ sets l at (le 4 v)
-    → l₂ ≡ sets l₁ (at + 4) (le 4 nodes)
-    → l₃ ≡ sets l₂ (at + 8) (entryBytes e)
-    → l₃ ≡ sets l at (slot r nodes e)
+    → l₁ ≡ sets l at (le 8 (v + 4294967296 * nodes))
+    → l₂ ≡ sets l₁ (at + 8) (entryBytes e)
+    → l₂ ≡ sets l at (slot r nodes e)
 unfolding slot
-slot-put l l₁ l₂ l₃ at r v nodes e n p₁ p₂ p₃ =
+slot-put l l₁ l₂ at r v nodes e f n p₁ p₂ =
     let i : at + 4 + 4 ≡ at + 8 = omega arith in
-    let d : sets l at (le 4 (numberOf r) ++ (le 4 nodes ++ entryBytes e)) ≡ sets (sets (sets l at (le 4 (numberOf r))) (at + 4) (le 4 nodes)) (at + 8) (entryBytes e) = simp (sets-append, length-le, i) in
-    cc (d, n)
+    let w : le 8 (v + 4294967296 * nodes) ≡ le 4 v ++ le 4 nodes = le-join 4 4 v nodes f in
+    let d : sets l at (le 4 v ++ (le 4 nodes ++ entryBytes e)) ≡ sets (sets l at (le 4 v ++ le 4 nodes)) (at + 8) (entryBytes e) = simp (sets-append, length-le, i) in
+    cc (d, n, w)
 
 -- ---- which call
 

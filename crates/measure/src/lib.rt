@@ -16,12 +16,17 @@ const CALL: usize = 32;
 // What is said to a call: the refusal's number and the nodes entered, four bytes each, and an entry, the answer's or, where there is none, the call's own.
 const SAID: usize = 40;
 
+// The two numbers are written as one word of eight bytes: a word can be one store, two numbers are two.
 fn say(said: &mut [u8], at: usize, r: Refusal, nodes: u32, e: Entry)
     requires { ⌜ at + 40 ≤ length (now said) ⌝ }
     ensures { λ _. ⌜ now (said .exit) ≡ sets (now (said .entry)) at (slot r nodes e) ⌝ }
 {
-    words::put(said, at, 4, record::number(r) as u64);
-    words::put(said, at + 4, 4, nodes as u64);
+    words::put(
+        said,
+        at,
+        8,
+        record::number(r) as u64 + 4294967296 * (nodes as u64),
+    );
     layout::put_entry(said, at + 8, e);
 }
 
@@ -41,7 +46,7 @@ fn call(shape: Shape, h: &mut [u64; 87], e: Entry, nodes: &mut [u8], table: &mut
     if e.kind == 3 {
         return calls::adding::add(shape, h, nodes, table);
     }
-    calls::finishing::finish(shape, h, e.start, nodes, table)
+    finishing::finish(shape, h, e.start, nodes, table)
 }
 
 // One call of the script: 6 a single question, 7 a full one; after 5, a finish, the script goes on from the record before it.
@@ -73,7 +78,7 @@ fn step(
     }
     if e.kind == 5 {
         let mut g = *h;
-        let r = calls::finishing::finish(shape, &mut g, e.start, nodes, table);
+        let r = finishing::finish(shape, &mut g, e.start, nodes, table);
         say(said, at, r, 0, e);
         return;
     }

@@ -28,7 +28,7 @@ something f a s h z = go (eqb (f 0) 0) (sym (a s h) ∙ z)
     go true e = h e
     go false e = omega arith
 
-many-more : (f : ℕ → ℕ) → After f → f many ≡ many
+pub many-more : (f : ℕ → ℕ) → After f → f many ≡ many
 many-more f a = a many (λ z. omega arith) ∙ go (eqb (f 0) 0)
   where
     go : (b : Bool) → cond b many many ≡ many
@@ -57,7 +57,7 @@ noted-after q t p e s h = go (eqb (e .quark .0) q && covers t e)
     go true = ap (λ (y : Bool). cond y (p + 1) many) (ne-eqb s 0 h) ∙ sym (ap (λ (y : Bool). cond y s many) (ne-eqb (p + 1) 0 (λ z. omega arith)))
     go false = refl
 
-look-after : (l : List ℕ) (q t p n : ℕ) → After (look l q t p n)
+pub look-after : (l : List ℕ) (q t p n : ℕ) → After (look l q t p n)
 unfolding look
 look-after l q t p zero = stays
 look-after l q t p (suc n) = then (noted q t p (readEntry l p)) (look l q t (p + entrySize) n) (noted-after q t p (readEntry l p)) (look-after l q t (p + entrySize) n)

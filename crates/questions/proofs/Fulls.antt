@@ -143,7 +143,7 @@ module _ (v : View) (t : ℕ) (l table : List ℕ) (roomy : Roomy v l) (zs : Lis
       go true = refl
       go false = length-from table t 0 (v .attributes) zs
 
-  begun-slot : (q : ℕ) → q < v .attributes → getD (allBegun v t table zs) q 0 ≡ cond (fromTable v t q table) ongoing 0
+  pub begun-slot : (q : ℕ) → q < v .attributes → getD (allBegun v t table zs) q 0 ≡ cond (fromTable v t q table) ongoing 0
   unfolding allBegun fromTable
   begun-slot q h = go (v .finished)
     where

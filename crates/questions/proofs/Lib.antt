@@ -5,3 +5,4 @@ pub mod Tables
 pub mod Along
 pub mod Fulls
 pub mod Heads
+pub mod Once

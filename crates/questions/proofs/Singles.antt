@@ -28,6 +28,9 @@ use Rattle.walk.proofs.Admitted.{long-same}
 -- ---- the walk and R7
 
 module _ (v : View) (t q : ℕ) (l : List ℕ) (r : Single) where
+  pub walked-same : (w : View) → v ≡ w → r ≡ walkedSingle v t q l → r ≡ walkedSingle w t q l
+  walked-same w is e = e ∙ ap (λ (x : View). walkedSingle x t q l) is
+
   pub walked-damaged : kept (walkOf l v t .rule) ≡ false → r ≡ refusedSingle Damaged → r ≡ walkedSingle v t q l
   unfolding walkedSingle told
   walked-damaged k e = rw k e
@@ -116,8 +119,6 @@ module _ (h : History) (t : ℕ) (quark : Quark) (l table : List ℕ) (r : Singl
         unfolding singleOf singleRefusal
         single-6 k e = rw (← is, not-false s n, is-long, not-false b m, lt-leb (h .attributes) (quark .0) (omega (arith, few)), is-asked, not-true a k) e
 
-        pub single-view : not a ≡ false → r ≡ viewSingle v t (quark .0) l table → r ≡ singleOf h t quark l table
+        pub single-view : not a ≡ false → r ≡ viewSingle (viewOf h) t (quark .0) l table → r ≡ singleOf h t quark l table
         unfolding singleOf singleRefusal viewSingle
-        single-view k e =
-            let f : r ≡ viewSingle (viewOf h) t (quark .0) l table = e ∙ ap (λ (x : View). viewSingle x t (quark .0) l table) views in
-            rw (← is, not-false s n, is-long, not-false b m, lt-leb (h .attributes) (quark .0) (omega (arith, few)), is-asked, not-false a k) f
+        single-view k e = rw (← is, not-false s n, is-long, not-false b m, lt-leb (h .attributes) (quark .0) (omega (arith, few)), is-asked, not-false a k) e

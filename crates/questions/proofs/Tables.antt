@@ -1,13 +1,13 @@
 -- The full question's table: turn by turn, and that it says of each quark what a single's walk finds. Assumes nothing.
 use Prim.Native.Nat.{ℕ, zero, suc, _+_, _-_, _≤_, _<_}
 use mathlib.Core.Path.{_≡_, refl, sym, ap, subst, _∙_}
-use mathlib.Core.Bool.{Bool, true, false, cond, _&&_}
+use mathlib.Core.Bool.{Bool, true, false, cond, not, _&&_}
 use mathlib.Core.List.{List}
 use native.Mathlib.Omega.{arith}
 use lib.Dec.{leb, eqb}
 use lib.ListN.{length, getD, set, length-set}
 use lib.Seq.{getD-set-same, getD-set-other}
-use borrow.Author.Tests.{eqb-true, eqb-false, le-leb, lt-leb}
+use borrow.Author.Tests.{eqb-true, eqb-false, eq-eqb, ne-eqb, le-leb, lt-leb}
 use Rattle.layout.specs.declared.Entry.{Entry}
 use Rattle.layout.specs.Layout.{entrySize, entryAt, readHeader, readEntry}
 use Rattle.transient.specs.declared.Ongoing.{Ongoing}
@@ -18,17 +18,25 @@ use Rattle.walk.specs.Rules.{broken, kept, covers}
 use Rattle.walk.specs.Walk.{placeOf, step}
 use Rattle.questions.specs.Found.{more, noted, look, lookIn, lookAt, found}
 use Rattle.questions.specs.Table.{ongoing, begun, begunFrom, noteIf, note, noteAll, noteIn, noteAt, foundFrom}
+use Rattle.walk.proofs.Broken.{false-is}
 
 -- ---- an entry is noted
 
-module _ (p : ℕ) (e : Entry) (xs : List ℕ) (a b : Bool) (is : b ≡ a) where
-  pub note-yes : (r : ℕ) → b ≡ true → r ≡ more (getD xs (e .quark .0) 0) p → set xs (e .quark .0) r ≡ noteIf a p e xs
-  unfolding noteIf
-  note-yes r h g = rw (← is, h, ← g)
+-- r tells whether it is the first for its quark
+abbrev Told : Bool → ℕ → Entry → List ℕ → Bool → List ℕ → Type 0
+Told a p e xs r ys = (r ≡ not (a && not (eqb (getD xs (e .quark .0) 0) 0))) × (r ≡ true → ys ≡ noteIf a p e xs)
 
-  pub note-no : b ≡ false → xs ≡ noteIf a p e xs
+module _ (p : ℕ) (e : Entry) (xs : List ℕ) (a b : Bool) (is : b ≡ a) where
+  pub note-second : b ≡ true → (getD xs (e .quark .0) 0 ≡ 0 → ⊥) → Told a p e xs false xs
+  note-second h some = (rw (← is, h, ne-eqb (getD xs (e .quark .0) 0) 0 some), λ z. absurd (false-is z))
+
+  pub note-first : b ≡ true → getD xs (e .quark .0) 0 ≡ 0 → Told a p e xs true (set xs (e .quark .0) (p + 1))
+  unfolding noteIf more
+  note-first h none = (rw (← is, h, eq-eqb (getD xs (e .quark .0) 0) 0 none), λ z. rw (← is, h, eq-eqb (getD xs (e .quark .0) 0) 0 none))
+
+  pub note-no : b ≡ false → Told a p e xs true xs
   unfolding noteIf
-  note-no h = rw (← is, h)
+  note-no h = (rw (← is, h), λ z. rw (← is, h))
 
 module _ (t p : ℕ) (e : Entry) (xs : List ℕ) where
   pub note-told : (a : Bool) (ys : List ℕ) → a ≡ covers t e → ys ≡ noteIf a p e xs → ys ≡ note t p e xs
@@ -69,12 +77,12 @@ module _ (l : List ℕ) (t p n i : ℕ) (xs : List ℕ) where
   unfolding noteAll
   all-done le = let z : n - i ≡ 0 = omega arith in ap (λ (k : ℕ). noteAll l t p k xs) z
 
-length-all : (l : List ℕ) (t p n : ℕ) (xs : List ℕ) → length (noteAll l t p n xs) ≡ length xs
+pub length-all : (l : List ℕ) (t p n : ℕ) (xs : List ℕ) → length (noteAll l t p n xs) ≡ length xs
 unfolding noteAll
 length-all l t p zero xs = refl
 length-all l t p (suc n) xs = length-all l t (p + entrySize) n _ ∙ length-note t p (readEntry l p) xs
 
-all-at : (l : List ℕ) (q t p n : ℕ) (xs : List ℕ) → q < length xs → getD (noteAll l t p n xs) q 0 ≡ look l q t p n (getD xs q 0)
+pub all-at : (l : List ℕ) (q t p n : ℕ) (xs : List ℕ) → q < length xs → getD (noteAll l t p n xs) q 0 ≡ look l q t p n (getD xs q 0)
 unfolding noteAll look
 all-at l q t p zero xs h = refl
 all-at l q t p (suc n) xs h =

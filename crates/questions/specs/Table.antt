@@ -1,7 +1,7 @@
 -- How the full question goes about it: one table for all quarks along one walk. The promise does not speak of it: a law ties it to what is found for each quark.
 use Prim.Native.Nat.{ℕ, zero, suc, _+_, _-_, _≤_, _<_}
 use mathlib.Core.Path.{_≡_}
-use mathlib.Core.Bool.{Bool, cond}
+use mathlib.Core.Bool.{Bool, cond, not}
 use mathlib.Core.List.{List, [], _++_}
 use lib.Dec.{leb, eqb}
 use lib.ListN.{length, getD, set}
@@ -13,8 +13,9 @@ use Rattle.walk.specs.declared.View.{View}
 use Rattle.walk.specs.declared.Walk.{Walk}
 use Rattle.walk.specs.Rules.{broken, kept, covers}
 use Rattle.walk.specs.Walk.{placeOf, step, rootOf}
-use Rattle.questions.specs.Found.{more}
+use Rattle.questions.specs.Found.{many, more}
 use Rattle.questions.specs.Single.{tableEntry}
+use Rattle.questions.specs.Full.{everyQuark}
 
 -- what is noted for a quark whose ongoing state answers: as `many`, no p + 1 comes near it
 abbrev pub ongoing : ℕ
@@ -61,6 +62,10 @@ foundFrom l v t (suc n) w xs = cond (w .go) (foundFrom l v t n (step l v t n w) 
 
 unfoldable pub foundAll : List ℕ → View → ℕ → List ℕ → List ℕ
 foundAll l v t xs = foundFrom l v t (v .level + 1) (rootOf v) xs
+
+-- nothing was found more than once for a quark below n
+unfoldable pub once : ℕ → List ℕ → Bool
+once n xs = everyQuark (λ q. not (eqb (getD xs q 0) many)) n
 
 -- ═══ The entries ═══
 

@@ -1,6 +1,5 @@
 // The full question: all attributes' states at t, in one walk.
 use crate::Full;
-use crate::one;
 use layout::Entry;
 use layout::Header;
 use layout::Quark;
@@ -11,8 +10,9 @@ use walk::known;
 use walk::rules;
 use walk::steps;
 ghost use mathlib.Core.Path.{_≡_};
-ghost use mathlib.Core.Bool.{true, false};
+ghost use mathlib.Core.Bool.{true, false, not, _&&_};
 ghost use Prim.Native.Nat.{ℕ, _+_, _*_, _/_, _≤_, _<_};
+ghost use lib.Dec.{eqb};
 ghost use lib.ListN.{length, getD, take};
 ghost use lib.Seq.{sets};
 ghost use Rattle.layout.specs.Layout.{entrySize};
@@ -25,9 +25,9 @@ ghost use Rattle.questions.specs.Found.{shown};
 ghost use Rattle.questions.specs.Along.{noteAlong};
 ghost use Rattle.questions.specs.Single.{entryFine};
 ghost use Rattle.questions.specs.Full.{everyQuark, refusedFull, walkedFull, walkedWritten, fullOf, fullWritten};
-ghost use Rattle.questions.specs.Table.{noteIf, noteAll, begun, allBegun, entryFor, entriesFrom, Readable};
+ghost use Rattle.questions.specs.Table.{noteIf, noteAll, once, begun, allBegun, entryFor, entriesFrom, Readable};
 
-// What was found for each quark: 0 nothing, p + 1 the one entry at byte p, ONGOING its ongoing state, one::MANY more than one.
+// What was found for each quark: 0 nothing, p + 1 the one entry at byte p, ONGOING its ongoing state. At a second one the question ends.
 const ONGOING: u32 = 0xffff_fffe;
 
 fn refused(r: Refusal) -> Full
@@ -39,18 +39,22 @@ fn refused(r: Refusal) -> Full
     }
 }
 
-// An entry at byte p that covers t, counted from `start` on, is noted for its quark.
-fn note(found: &mut [u32], start: u64, t: u64, p: usize, e: Entry)
+// An entry at byte p that covers t is noted for its quark. Tells false where that quark has one already: R7 is broken, whatever else is found.
+fn note(found: &mut [u32], t: u64, p: usize, e: Entry) -> bool
     requires { ⌜ (p + entrySize ≤ 4294967296) × (e .quark .0 < length (now found)) ⌝ }
-    ensures { λ _. ⌜ now (found .exit) ≡ noteIf (reaches start t e) p e (now (found .entry)) ⌝ }
+    ensures { λ r. ⌜ (r ≡ not (reaches t e && not (eqb (getD (now (found .entry)) (e .quark .0) 0) 0))) × (r ≡ true → now (found .exit) ≡ noteIf (reaches t e) p e (now (found .entry))) ⌝ }
 {
-    if rules::reaches(start, t, e) {
+    if rules::reaches(t, e) {
         let q = e.quark.0 as usize;
-        found[q] = one::more(found[q], p);
+        if found[q] != 0 {
+            return false;
+        }
+        found[q] = (p + 1) as u32;
     }
+    true
 }
 
-// Each of a node's entries is read once, for R6 and for its quark, up to the first that does not fit; the kinds and the nulls' values are tested at the end, for all of them at once. What was noted matters only where none breaks R6.
+// Each of a node's entries is read once, for R6 and for its quark, up to the first that does not fit or that is a second one for its quark; the kinds and the nulls' values are tested at the end, for all of them at once. What was noted matters only where none breaks R6 or R7.
 fn look(
     nodes: &[u8],
     attributes: u32,
@@ -60,33 +64,33 @@ fn look(
     n: u32,
     found: &mut [u32],
 ) -> bool
-    requires { ⌜ (at + entrySize * n ≤ length (now nodes)) × (at + entrySize * n ≤ 4294967296) × (attributes ≤ length (now found)) × (h .start ≤ h .end) ⌝ }
-    ensures { λ r. ⌜ (r ≡ allSound (now (nodes .entry)) attributes h at n true) × (r ≡ true → now (found .exit) ≡ noteAll (now (nodes .entry)) t at n (now (found .entry))) ⌝ }
+    requires { ⌜ (at + entrySize * n ≤ length (now nodes)) × (at + entrySize * n ≤ 4294967296) × (attributes ≤ length (now found)) × (h .start ≤ h .end) × (once attributes (now found) ≡ true) ⌝ }
+    ensures { λ r. ⌜ (r ≡ (allSound (now (nodes .entry)) attributes h at n true && once attributes (noteAll (now (nodes .entry)) t at n (now (found .entry))))) × (r ≡ true → now (found .exit) ≡ noteAll (now (nodes .entry)) t at n (now (found .entry))) ⌝ }
 {
     let mut i: u32 = 0;
     let mut p = at;
     let mut nulls: u64 = 0;
     let mut kinds: u64 = 0;
-    let span = h.end - h.start;
-    let now = rules::since(h.start, t);
     while i < n {
         let e = layout::read_entry(nodes, p);
-        if !rules::fits(attributes, h.start, span, e) {
+        if !rules::lies(attributes, h.start, h.end, e) {
             return false;
         }
         kinds = rules::kinds(kinds, e);
         nulls = rules::nulls(nulls, e);
-        note(found, h.start, now, p, e);
+        if !note(found, t, p, e) {
+            return false;
+        }
         p += layout::ENTRY;
         i += 1;
     }
     (nulls == 0) & (kinds <= 1)
 }
 
-// The nodes along the way, R6 of all their entries, each noted for its quark.
+// The nodes along the way, R6 of all their entries, each noted for its quark, up to a second one.
 fn along(nodes: &[u8], v: View, t: u64, path: &[u64], n: u32, found: &mut [u32]) -> bool
-    requires { ⌜ (n ≤ length (now path)) × ((i : ℕ) → i < n → Stands v (now nodes) (getD (now path) i 0)) × (v .attributes ≤ length (now found)) ⌝ }
-    ensures { λ r. ⌜ (r ≡ soundAlong (now (nodes .entry)) v (take n (now (path .entry)))) × (r ≡ true → now (found .exit) ≡ noteAlong (now (nodes .entry)) v t (take n (now (path .entry))) (now (found .entry))) ⌝ }
+    requires { ⌜ (n ≤ length (now path)) × ((i : ℕ) → i < n → Stands v (now nodes) (getD (now path) i 0)) × (v .attributes ≤ length (now found)) × (once (v .attributes) (now found) ≡ true) ⌝ }
+    ensures { λ r. ⌜ (r ≡ (soundAlong (now (nodes .entry)) v (take n (now (path .entry))) && once (v .attributes) (noteAlong (now (nodes .entry)) v t (take n (now (path .entry))) (now (found .entry))))) × (r ≡ true → now (found .exit) ≡ noteAlong (now (nodes .entry)) v t (take n (now (path .entry))) (now (found .entry))) ⌝ }
 {
     let mut k: u32 = 0;
     while k < n {
@@ -133,15 +137,15 @@ fn note_ongoing(table: &[u8], v: View, t: u64, found: &mut [u32]) -> bool
     true
 }
 
-// R7 of the first n quarks.
+// R7 of the first n quarks, for none of which more than one was found.
 fn all_one(found: &[u32], n: u32) -> bool
-    requires { ⌜ n ≤ length (now found) ⌝ }
+    requires { ⌜ (n ≤ length (now found)) × (once n (now found) ≡ true) ⌝ }
     ensures { λ r. ⌜ r ≡ everyQuark (λ q. shown (getD (now (found .entry)) q 0)) n ⌝ }
 {
     let mut i: u32 = 0;
     while i < n {
         let q = i as usize;
-        if !one::one(found[q]) {
+        if found[q] == 0 {
             return false;
         }
         i += 1;

@@ -15,7 +15,8 @@ ghost use mathlib.Core.Bool.{true, false};
 ghost use lib.ListN.{length, getD, take};
 ghost use Rattle.layout.specs.Layout.{entrySize};
 ghost use Rattle.record.specs.Record.{recordOf};
-ghost use Rattle.walk.specs.View.{Roomy};
+ghost use Rattle.record.specs.Sound.{sound};
+ghost use Rattle.walk.specs.View.{viewOf, Roomy};
 ghost use Rattle.walk.specs.Walk.{allSound};
 ghost use Rattle.walk.specs.Way.{soundAlong, Stands};
 ghost use Rattle.questions.specs.Found.{more, look, shown};
@@ -23,7 +24,7 @@ ghost use Rattle.questions.specs.Along.{lookAlong};
 ghost use Rattle.questions.specs.Single.{refusedSingle, walkedSingle, viewSingle, singleOf};
 
 // What was found for a quark: 0 nothing, p + 1 the one entry at byte p, MANY more than one.
-pub const MANY: u32 = 0xffff_ffff;
+const MANY: u32 = 0xffff_ffff;
 
 // What one node's entries say: R6 of all of them, and what was found so far.
 pub struct Seen {
@@ -31,7 +32,7 @@ pub struct Seen {
     pub found: u32,
 }
 
-pub fn more(s: u32, p: usize) -> u32
+fn more(s: u32, p: usize) -> u32
     requires { ⌜ p + entrySize ≤ 4294967296 ⌝ }
     ensures { λ r. ⌜ r ≡ more s p ⌝ }
 {
@@ -58,7 +59,6 @@ fn look(
     let mut nulls: u64 = 0;
     let mut kinds: u64 = 0;
     let span = h.end - h.start;
-    let now = rules::since(h.start, t);
     while i < n {
         let e = layout::read_entry(nodes, p);
         if !rules::fits(attributes, h.start, span, e) {
@@ -70,7 +70,7 @@ fn look(
         kinds = rules::kinds(kinds, e);
         nulls = rules::nulls(nulls, e);
         if e.quark.0 == quark.0 {
-            if rules::reaches(h.start, now, e) {
+            if rules::reaches(t, e) {
                 s = more(s, p);
             }
         }
@@ -118,7 +118,7 @@ fn along(nodes: &[u8], v: View, quark: Quark, t: u64, path: &[u64], n: u32) -> S
 }
 
 // R7: exactly one.
-pub fn one(s: u32) -> bool
+fn one(s: u32) -> bool
     ensures { λ r. ⌜ r ≡ shown s ⌝ }
 {
     (s != 0) & (s != MANY)
@@ -167,16 +167,25 @@ pub fn walked(v: View, t: u64, quark: Quark, nodes: &[u8]) -> Single
     }
 }
 
-// The question, once the record and the buffers are admitted, the quark is known and t is asked rightly.
-fn admitted(v: View, t: u64, quark: Quark, nodes: &[u8], table: &[u8]) -> Single
-    requires { ⌜ Roomy v (now nodes) × (quark .0 < v .attributes) × (v .finished ≡ false → v .attributes ≤ length (now table) / entrySize) ⌝ }
-    ensures { λ r. ⌜ r ≡ viewSingle v t (quark .0) (now (nodes .entry)) (now (table .entry)) ⌝ }
+// The same of a history's record. What the walk knows is made from it here: handed over, it would be copied on the way, in other pieces than it was written in, and a processor waits for such copies.
+fn walked_from(shape: Shape, h: &[u64; 87], t: u64, quark: Quark, nodes: &[u8]) -> Single
+    requires { ⌜ (sound (recordOf shape (now h)) ≡ true) × Roomy (viewOf (recordOf shape (now h))) (now nodes) ⌝ }
+    ensures { λ r. ⌜ r ≡ walkedSingle (viewOf (recordOf shape (now (h .entry)))) t (quark .0) (now (nodes .entry)) ⌝ }
 {
-    if v.finished {
-        return walked(v, t, quark, nodes);
+    let v = known::view_of(shape, h);
+    walked(v, t, quark, nodes)
+}
+
+// The question, once the record and the buffers are admitted, the quark is known and t is asked rightly.
+fn admitted(shape: Shape, h: &[u64; 87], t: u64, quark: Quark, nodes: &[u8], table: &[u8]) -> Single
+    requires { ⌜ (sound (recordOf shape (now h)) ≡ true) × Roomy (viewOf (recordOf shape (now h))) (now nodes) × (quark .0 < viewOf (recordOf shape (now h)) .attributes) × (viewOf (recordOf shape (now h)) .finished ≡ false → viewOf (recordOf shape (now h)) .attributes ≤ length (now table) / entrySize) ⌝ }
+    ensures { λ r. ⌜ r ≡ viewSingle (viewOf (recordOf shape (now (h .entry)))) t (quark .0) (now (nodes .entry)) (now (table .entry)) ⌝ }
+{
+    if record::sound::finished(h) {
+        return walked_from(shape, h, t, quark, nodes);
     }
     let o = transient::read_ongoing(table, quark);
-    if !transient::ongoing_sound(o, v.start, v.latest) {
+    if !transient::ongoing_sound(o, h[record::START], h[record::LATEST]) {
         return refused(Refusal::Damaged);
     }
     if o.start <= t {
@@ -187,7 +196,7 @@ fn admitted(v: View, t: u64, quark: Quark, nodes: &[u8], table: &[u8]) -> Single
             entry: e,
         };
     }
-    walked(v, t, quark, nodes)
+    walked_from(shape, h, t, quark, nodes)
 }
 
 pub fn single(
@@ -213,5 +222,5 @@ pub fn single(
     if !known::asked(v, t) {
         return refused(Refusal::Outside);
     }
-    admitted(v, t, quark, nodes, table)
+    admitted(shape, h, t, quark, nodes, table)
 }

@@ -34,29 +34,44 @@ pub fn shape_allowed(s: Shape) -> bool
 }
 
 // "its shape is allowed, numbers are within limits, the used count 1 to N, start is at or below latest, S lies in that span"
+// A ladder, not `&`: each test is then one compare and branch, never taken in a sound record. Start against latest is not among them: S lies between the two.
 fn numbers_sound(s: Shape, h: &[u64; 87]) -> bool
     ensures { λ r. ⌜ r ≡ numbersSound (recordOf s (now (h .entry))) ⌝ }
 {
-    (h[ATTRIBUTES] <= 4096)
-        & (h[LATEST] <= LAST_TIME)
-        & (h[START] <= h[LATEST])
-        & (h[START] <= h[LARGEST_END])
-        & (h[LARGEST_END] <= h[LATEST])
-        & (h[TOP] <= 15)
-        & (1 <= h[USED])
-        & (h[USED] <= s.n as u64)
+    if 4096 < h[ATTRIBUTES] {
+        return false;
+    }
+    if LAST_TIME < h[LATEST] {
+        return false;
+    }
+    if h[LARGEST_END] < h[START] {
+        return false;
+    }
+    if h[LATEST] < h[LARGEST_END] {
+        return false;
+    }
+    if 15 < h[TOP] {
+        return false;
+    }
+    (1 <= h[USED]) & (h[USED] <= s.n as u64)
 }
 
-// "open counts within K and C, places below the used count, every open level above 0 has a child"
+// "open counts within K and C, places below the used count, every open level above 0 has a child": a ladder as above
 fn level_sound(h: &[u64; 87], s: Shape, level: u64) -> bool
     requires { ⌜ level < 16 ⌝ }
     ensures { λ r. ⌜ r ≡ levelSound (branchOf (now (h .entry))) s (usedIn (now (h .entry))) level ⌝ }
 {
     let i = level as usize;
-    (h[INTERVALS + i] <= s.k as u64)
-        & (h[CHILDREN + i] <= s.c as u64)
-        & (h[i] < h[USED])
-        & ((level == 0) | (1 <= h[CHILDREN + i]))
+    if (s.k as u64) < h[INTERVALS + i] {
+        return false;
+    }
+    if h[USED] <= h[i] {
+        return false;
+    }
+    if (s.c as u64) < h[CHILDREN + i] {
+        return false;
+    }
+    (level == 0) | (1 <= h[CHILDREN + i])
 }
 
 // "places differ": that of a level from those of the levels above it, up to top

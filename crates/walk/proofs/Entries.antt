@@ -1,4 +1,4 @@
--- R6 of an entry, as the questions test it: its times counted from the node's start on, its kind and value with those before, bit by bit. Assumes nothing.
+-- R6 of an entry, as the questions test it: its times counted from the node's start on or compared, its kind and value with those before, bit by bit. Assumes nothing.
 use Prim.Native.Nat.{ℕ, zero, suc, _+_, _-_, _%_, _≤_, _<_}
 use mathlib.Core.Path.{_≡_, refl, sym, ap, _∙_}
 use mathlib.Core.Bool.{Bool, true, false, cond, not, _&&_}
@@ -65,6 +65,20 @@ module _ (a start end : ℕ) (e : Entry) where
       go : (b : Bool) → entryFits a start end e ≡ b → false ≡ b
       go true y = absurd (n (fits-facts y))
       go false y = refl
+
+  pub fits-end : end < e .end → false ≡ entryFits a start end e
+  fits-end h = fits-not (λ f. omega (arith, f .to))
+
+  pub fits-start : e .start < start → false ≡ entryFits a start end e
+  fits-start h = fits-not (λ f. omega (arith, f .from))
+
+  pub fits-last : e .quark .0 < a → e .end ≤ end → start ≤ e .start → leb (e .start) (e .end) ≡ entryFits a start end e
+  unfolding entryFits
+  fits-last known to from = go (leb (e .start) (e .end)) refl
+    where
+      go : (b : Bool) → leb (e .start) (e .end) ≡ b → b ≡ entryFits a start end e
+      go true y = fits-made (record { known = known; order = leb-true (e .start) (e .end) y; from = from; to = to })
+      go false y = let l = leb-false (e .start) (e .end) y in fits-not (λ f. omega (arith, f .order))
 
   pub fits-quark : a ≤ e .quark .0 → false ≡ entryFits a start end e
   fits-quark h = fits-not (λ f. omega (arith, f .known))
@@ -166,28 +180,22 @@ sound-both a h e = go (ltb (e .quark .0) a) (stateSound (e .kind) (e .value)) (l
 
 -- ---- an entry that fits covers t
 
-reaches-covers : (a start end t now : ℕ) (e : Entry) → Fits a start end e → e .end ≤ 18446744073709551615 → now ≡ since start t → reaches start now e ≡ covers t e
+reaches-covers : (t : ℕ) (e : Entry) → e .start ≤ e .end → e .end ≤ 18446744073709551615 → reaches t e ≡ covers t e
 unfolding reaches covers
-reaches-covers a start end t now e f last is =
-    ap (λ (x : ℕ). leb x now && leb now (since start (e .end))) (since-from start (e .start) (f .from))
-    ∙ ap (λ (x : ℕ). leb (e .start - start) now && leb now x) (since-from start (e .end) (omega (arith, f .from, f .order)))
-    ∙ go (leb start t) refl
+reaches-covers t e order last = ap (leb (since (e .start) t)) (since-from (e .start) (e .end) order) ∙ go (leb (e .start) t) refl
   where
-    both : (b : Bool) (x y x′ y′ : ℕ) → leb x y ≡ b → (x ≤ y → x′ ≤ y′) → (y < x → y′ < x′) → leb x y ≡ leb x′ y′
-    both true x y x′ y′ g u v = g ∙ sym (le-leb x′ y′ (u (leb-true x y g)))
-    both false x y x′ y′ g u v = g ∙ sym (lt-leb x′ y′ (v (leb-false x y g)))
-
-    go : (b : Bool) → leb start t ≡ b → (leb (e .start - start) now && leb now (e .end - start)) ≡ (leb (e .start) t && leb t (e .end))
+    go : (b : Bool) → leb (e .start) t ≡ b → leb (since (e .start) t) (e .end - e .start) ≡ (b && leb t (e .end))
     go true g =
-        let h = leb-true _ _ g in
-        let k : now ≡ t - start = is ∙ since-from start t h in
-        ap (λ (x : Bool). x && leb now (e .end - start)) (both (leb (e .start - start) now) (e .start - start) now (e .start) t refl (λ u. omega (arith, f .from)) (λ u. omega (arith, f .from)))
-        ∙ ap (λ (x : Bool). leb (e .start) t && x) (both (leb now (e .end - start)) now (e .end - start) t (e .end) refl (λ u. omega (arith, f .from, f .order)) (λ u. omega (arith, f .from, f .order)))
+        let h = leb-true (e .start) t g in
+        ap (λ (x : ℕ). leb x (e .end - e .start)) (since-from (e .start) t h) ∙ both (leb t (e .end)) refl
+      where
+        both : (c : Bool) → leb t (e .end) ≡ c → leb (t - e .start) (e .end - e .start) ≡ c
+        both true k = let l = leb-true t (e .end) k in le-leb (t - e .start) (e .end - e .start) (omega arith)
+        both false k = let l = leb-false t (e .end) k in let m = leb-true (e .start) t g in lt-leb (t - e .start) (e .end - e .start) (omega arith)
     go false g =
-        let h = leb-false _ _ g in
-        let k : now ≡ t + 18446744073709551616 - start = is ∙ since-before start t h in
-        and-no (leb (e .start - start) now) _ (lt-leb now (e .end - start) (omega (arith, f .from, f .order)))
-        ∙ sym (ap (λ (x : Bool). x && leb t (e .end)) (lt-leb (e .start) t (omega (arith, f .from))))
+        let h = leb-false (e .start) t g in
+        let k = since-before (e .start) t h in
+        lt-leb (since (e .start) t) (e .end - e .start) (omega arith)
 
 module _ (a start end : ℕ) (e : Entry) (f : Bool) (gives : f ≡ entryFits a start end e) (y : not f ≡ false) where
   fitting : Fits a start end e
@@ -196,5 +204,5 @@ module _ (a start end : ℕ) (e : Entry) (f : Bool) (gives : f ≡ entryFits a s
   pub known-quark : e .quark .0 < a
   known-quark = fitting .known
 
-  pub covers-told : (t now : ℕ) (b : Bool) → e .end ≤ 18446744073709551615 → now ≡ since start t → b ≡ reaches start now e → b ≡ covers t e
-  covers-told t now b last is r = r ∙ reaches-covers a start end t now e fitting last is
+  pub covers-told : (t : ℕ) (b : Bool) → e .end ≤ 18446744073709551615 → b ≡ reaches t e → b ≡ covers t e
+  covers-told t b last r = r ∙ reaches-covers t e (fitting .order) last

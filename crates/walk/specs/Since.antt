@@ -1,4 +1,4 @@
--- How the questions go about an entry: its times counted from the node's start on. The promise does not speak of it: laws tie it to R6 and to what covers t.
+-- How the questions go about an entry: times counted from a start on. The promise does not speak of it: laws tie it to R6 and to what covers t.
 use Prim.Native.Nat.{ℕ, _+_, _-_}
 use mathlib.Core.Bool.{Bool, cond, _&&_}
 use lib.Dec.{leb, ltb}
@@ -12,6 +12,6 @@ since start x = cond (leb start x) (x - start) (x + 18446744073709551616 - start
 unfoldable pub entryFits : ℕ → ℕ → ℕ → Entry → Bool
 entryFits attributes start end e = ltb (e .quark .0) attributes && leb (e .start) (e .end) && leb start (e .start) && leb (e .end) end
 
--- an entry's times, counted from `start` on, lie on either side of `now`
-unfoldable pub reaches : ℕ → ℕ → Entry → Bool
-reaches start now e = leb (since start (e .start)) now && leb now (since start (e .end))
+-- t counted from the entry's own start on is no further than its end: what is before the start comes out behind it
+unfoldable pub reaches : ℕ → Entry → Bool
+reaches t e = leb (since (e .start) t) (since (e .start) (e .end))

@@ -50,7 +50,7 @@ pub fn kept(rule: Rule) -> bool
     }
 }
 
-// A time counted from a node's start on, around 2^64: what is before the start comes out behind everything in the node.
+// A time counted from a start on, around 2^64: what is before the start comes out behind everything from it on.
 pub fn since(start: u64, x: u64) -> u64
     ensures { λ r. ⌜ r ≡ since start x ⌝ }
 {
@@ -73,6 +73,22 @@ pub fn fits(attributes: u32, start: u64, span: u64, e: Entry) -> bool
     from <= to
 }
 
+// The same by three comparisons: dearer alone, but where `reaches` is asked of every entry it has its length from the last of them.
+pub fn lies(attributes: u32, start: u64, end: u64, e: Entry) -> bool
+    ensures { λ r. ⌜ r ≡ entryFits attributes start end e ⌝ }
+{
+    if attributes <= e.quark.0 {
+        return false;
+    }
+    if end < e.end {
+        return false;
+    }
+    if e.start < start {
+        return false;
+    }
+    e.start <= e.end
+}
+
 // The kinds so far, bit by bit: 0 or 1 as long as each is.
 pub fn kinds(before: u64, e: Entry) -> u64
     ensures { λ r. ⌜ leb r 1 ≡ (leb before 1 && leb (e .kind) 1) ⌝ }
@@ -87,13 +103,11 @@ pub fn nulls(before: u64, e: Entry) -> u64
     before | transient::null_value(e.kind, e.value)
 }
 
-// An entry that fits covers the time `now`, counted from the node's start on too.
-pub fn reaches(start: u64, now: u64, e: Entry) -> bool
-    ensures { λ r. ⌜ r ≡ reaches start now e ⌝ }
+// An entry that fits covers t: one comparison, since of the two that say so one or the other fails for every entry but one, and a processor can't guess which.
+pub fn reaches(t: u64, e: Entry) -> bool
+    ensures { λ r. ⌜ r ≡ reaches t e ⌝ }
 {
-    let from = since(start, e.start);
-    let to = since(start, e.end);
-    (from <= now) & (now <= to)
+    since(e.start, t) <= since(e.start, e.end)
 }
 
 // "An open node holds every t from its start."

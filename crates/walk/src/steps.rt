@@ -16,7 +16,7 @@ ghost use Rattle.walk.specs.Rules.{kept};
 ghost use Rattle.walk.specs.Walk.{placeOf, rootOf, ended, onward, pick, child, downTo, descend};
 ghost use Rattle.walk.specs.Way.{descentOf, wayOf};
 
-pub fn root(v: View) -> Walk
+fn root(v: View) -> Walk
     ensures { λ r. ⌜ r ≡ rootOf v ⌝ }
 {
     let place = v.root;
@@ -31,7 +31,7 @@ pub fn root(v: View) -> Walk
     }
 }
 
-pub fn ended(w: Walk, rule: Rule, place: Seq) -> Walk
+fn ended(w: Walk, rule: Rule, place: Seq) -> Walk
     ensures { λ r. ⌜ r ≡ ended w rule place ⌝ }
 {
     Walk {
@@ -114,7 +114,7 @@ fn down_to(nodes: &[u8], v: View, t: u64, h: Header, at: usize, k: u32, w: Walk)
 }
 
 // Down from a node that was entered and looked at.
-pub fn descend(nodes: &[u8], v: View, t: u64, h: Header, at: usize, w: Walk) -> Walk
+fn descend(nodes: &[u8], v: View, t: u64, h: Header, at: usize, w: Walk) -> Walk
     requires { ⌜ Roomy v (now nodes) × (at + nodeSize (v .shape) ≤ length (now nodes)) × (h .children ≤ v .shape .c) × (w .entered < 65536) ⌝ }
     ensures { λ r. ⌜ r ≡ descend (now (nodes .entry)) v t h at w ⌝ }
 {

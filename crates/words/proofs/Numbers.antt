@@ -2,7 +2,7 @@
 use Prim.Native.Nat.{ℕ, zero, suc, _+_, _-_, _*_, _/_, _%_, _^_, _<_, _≤_}
 use mathlib.Core.Path.{_≡_, refl, sym, ap, subst, _∙_}
 use mathlib.Core.List.{List, [], _∷_, _++_}
-use native.Mathlib.Nat.{add-zero, add-suc, suc-add, zero-add, div-add-mod', div-lt-iff-lt-mul, pow-suc, sub-self, pow-le-pow-right, lt-of-lt-of-le}
+use native.Mathlib.Nat.{add-zero, add-suc, suc-add, zero-add, mul-comm, mul-assoc, div-add-mod', div-lt-iff-lt-mul, pow-suc, sub-self, pow-le-pow-right, lt-of-lt-of-le}
 use lib.Dec.{lit<}
 use native.Mathlib.Omega.{arith}
 use lib.ListN.{length, getD, set, take, drop, length-set, List·getD-append}
@@ -16,15 +16,27 @@ unfolding le
 length-le zero v = refl
 length-le (suc n) v = ap suc (length-le n (v / 256))
 
+-- the bytes of two numbers, one behind the other, are the bytes of one
+pub le-join : (n m a b : ℕ) → a < 256 ^ n → le (n + m) (a + 256 ^ n * b) ≡ le n a ++ le m b
+unfolding le
+le-join zero m a b h =
+    let e : a + 256 ^ zero * b ≡ b = omega (arith, h) in
+    ap (λ (k : ℕ). le k (a + 256 ^ zero * b)) (zero-add m) ∙ ap (λ (k : ℕ). le m k) e
+le-join (suc n) m a b h =
+    let v : ℕ = a + 256 ^ suc n * b in
+    let high : ℕ = 256 ^ n * b in
+    let e : 256 ^ suc n * b ≡ 256 * high = ap (λ (k : ℕ). k * b) (pow-suc 256 n ∙ mul-comm (256 ^ n) 256) ∙ mul-assoc 256 (256 ^ n) b in
+    let r : v % 256 ≡ a % 256 = omega arith in
+    let q : v / 256 ≡ a / 256 + high = omega arith in
+    let small : a / 256 < 256 ^ n = div-lt-iff-lt-mul {k = 256} (omega arith) .1 (subst (λ (p : ℕ). a < p) (pow-suc 256 n) h) in
+    ap (λ (k : ℕ). le k v) (suc-add n m)
+    ∙ ap (λ (k : ℕ). k ∷ le (n + m) (v / 256)) r
+    ∙ ap (λ (k : ℕ). a % 256 ∷ le (n + m) k) q
+    ∙ ap (λ (l : List ℕ). a % 256 ∷ l) (le-join n m (a / 256) b small)
+
 -- a number put in more bytes than it needs has zeros behind it
 pub le-wide : (n m v : ℕ) → v < 256 ^ n → le (n + m) v ≡ le n v ++ le m 0
-unfolding le
-le-wide zero m v b =
-    let e : v ≡ 0 = omega (arith, b) in
-    ap (λ (k : ℕ). le k v) (zero-add m) ∙ ap (λ (k : ℕ). le m k) e
-le-wide (suc n) m v b =
-    let small : v / 256 < 256 ^ n = div-lt-iff-lt-mul {k = 256} (omega arith) .1 (subst (λ (p : ℕ). v < p) (pow-suc 256 n) b) in
-    ap (λ (k : ℕ). le k v) (suc-add n m) ∙ ap (λ (l : List ℕ). v % 256 ∷ l) (le-wide n m (v / 256) small)
+le-wide n m v b = ap (λ (k : ℕ). le (n + m) k) (omega arith) ∙ le-join n m v 0 b
 
 -- a turn of the loop that writes: one store, and what is left to write
 pub put-step : (l : List ℕ) (at i n v : ℕ) → i < n → sets l (at + i) (le (n - i) v) ≡ sets (set l (at + i) (v % 256)) (at + (i + 1)) (le (n - (i + 1)) (v / 256))

@@ -9,6 +9,9 @@ use borrow.Author.Needs.{needs}
 use Rattle.layout.proofs.put_entry.Statement.{statement}
 use Rattle.layout.proofs.put_entry.Tie as tie
 
+quark-fits : (c : tie.Start) → c .args .e .quark .0 < 2 ^ 32
+quark-fits c = search needs
+
 kind-fits : (c : tie.Start) → c .args .e .kind < 2 ^ 8
 kind-fits c = search needs
 
@@ -17,19 +20,18 @@ value-fits c = search needs
 
 returns : tie.Need-returns
 returns c =
-    let c₅ = c .before .before in
-    let c₄ = c₅ .before .before .before .before .before .before in
-    let c₃ = c₄ .before .before .before .before in
+    let c₄ = c .before .before in
+    let c₃ = c₄ .before .before .before .before .before .before in
     let c₂ = c₃ .before .before .before .before in
-    let c₁ = c₂ .before .before .before .before .before in
-    let c₀ = c₁ .before .before .before .before in
-    entry-put _ _ _ _ _ _ _ _ (c₀ .args .e) (kind-fits c₀) (c₁ .put .ensures) (c₂ .put2 .ensures) (c₃ .put3 .ensures) (c₄ .put4 .ensures)
-    (c₅ .before .bits .ensures ∙ ap (ofZ w64) (toZ-ofZ (value-fits c₀))) (c₅ .put5 .ensures)
+    let c₁ = c₂ .before .before .before .before in
+    let c₀ = c₁ .before .before .before .before .before in
+    entry-put _ _ _ _ _ _ _ (c₀ .args .e) (quark-fits c₀) (kind-fits c₀) (c₁ .put .ensures) (c₂ .put2 .ensures) (c₃ .put3 .ensures)
+    (c₄ .before .bits .ensures ∙ ap (ofZ w64) (toZ-ofZ (value-fits c₀))) (c₄ .put4 .ensures)
 
 pub put-entry-spec : {M : Type 1} → statement M
 put-entry-spec =
     tie.close
     (tie.spec
-    (λ c. search needs) (λ c κs. search needs) (λ c. search needs) (λ c. search needs) (λ c κs. search needs) (λ c. search needs)
+    (λ c. search needs) (λ c. search needs) (λ c. search needs) (λ c. search needs) (λ c κs. search needs) (λ c. search needs)
     (λ c κs. search needs) (λ c. search needs) (λ c κs. search needs) (λ c. search needs) (λ c κs. search needs) (λ c κs. search needs)
     (λ c. search needs) returns)

@@ -6,10 +6,9 @@ use Rattle.measure.proofs.say.Tie as tie
 
 returns : tie.Need-returns
 returns c =
-    let c₃ = c .before .before in
-    let c₂ = c₃ .before .before .before .before in
+    let c₂ = c .before .before in
     let c₁ = c₂ .before .before .before .before in
-    slot-put _ _ _ _ _ _ _ _ _ (c₁ .before .number .ensures) (c₁ .put .ensures) (c₂ .put2 .ensures) (c₃ .put-entry .ensures)
+    slot-put _ _ _ _ _ _ _ _ (search needs) (c₁ .before .number .ensures) (c₁ .put .ensures) (c₂ .put-entry .ensures)
 
 pub say-spec : {M : Type 1} → statement M
 say-spec =
@@ -17,7 +16,7 @@ say-spec =
     (tie.spec
     (λ c κs. search needs)
     (λ c. search needs)
-    (λ c κs. search needs)
+    (λ c. search needs)
     (λ c. search needs)
     (λ c κs. search needs)
     (λ c. search needs)

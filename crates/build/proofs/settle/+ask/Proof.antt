@@ -1,12 +1,14 @@
 -- `build::settle::ask` meets its contract. Its measure is the number of open levels above; each `return` cites the law of its way through `askUp`.
 -- Assumes nothing.
 use Prim.Native.Nat.{ℕ, _<_, _-_}
+use mathlib.Core.Path.{ap}
 use lib.ListN.{getD}
 use borrow.Author.Needs.{needs}
 use borrow.Fn.Kinds.{In}
 use borrow.Fn.PlainCycle.{Measures, is, falls, and}
 use Rattle.record.specs.Record.{recordOf}
-use Rattle.build.proofs.Ways.{here, chained, new-root, upward, fewer}
+use Rattle.build.specs.declared.Plan.{Plan}
+use Rattle.build.proofs.Ways.{here, chained, new-root, level-upward, fewer}
 use Rattle.build.proofs.settle.ask.Reads as ask
 use Rattle.build.proofs.settle.ask.Kinds as ask-kinds
 use Rattle.build.proofs.settle.+ask.Lts-ask as ask-lts
@@ -15,7 +17,7 @@ use Rattle.build.proofs.settle.+ask.{statement}
 use Rattle.build.proofs.settle.+ask.Tie.{close}
 
 abbrev μ-ask : Measures 1 ask-kinds.ps ℕ
-μ-ask κs a = getD (a .1 .0 .now) 86 0 - a .1 .1 .1 .0
+μ-ask κs a = getD (a .1 .1 .1 .0 .now) 86 0 - a .1 .1 .1 .1 .1 .0
 
 abbrev ask-at : ℕ → In 1 ask-kinds.ps
 ask-at t = and 1 ask-kinds.ps (is 1 ask-kinds.ps μ-ask t) ask.Pre
@@ -26,21 +28,23 @@ ask-below t = and 1 ask-kinds.ps (falls 1 ask-kinds.ps _<_ μ-ask t) ask.Pre
 abbrev claims : ℕ → ask-lts.Claims
 claims t = (rule-reads.Asked, rule-reads.Learnt, ask-below t, ask.Post)
 
+abbrev level : Plan → ℕ
+level p = p .level
+
 pub +ask-spec : {M : Type 1} → statement M
 +ask-spec =
     close μ-ask λ t.
     ask-lts.spec (claims t) (ask-at t) ask.Post
     (λ c κs. search needs)
     (λ c. search needs)
-    (λ c. let a = c .before .before .before in here (recordOf (a .args .shape) (a .args .h .now)) _ _ _ _ _ _ (c .before .before .rule .ensures) _ (search needs))
+    (λ c x. ap level (here _ _ _ _ _ x _ (c .before .before .rule .ensures) _ (search needs)))
     (λ c. search needs)
-    (λ c. let a = c .before .before .before in chained (recordOf (a .args .shape) (a .args .h .now)) _ _ _ _ _ _ (c .before .before .rule .ensures) _ (search needs))
-    (λ c. search needs)
-    (λ c. search needs)
+    (λ c x. ap level (chained _ _ _ _ _ x _ (c .before .before .rule .ensures) _ (search needs)))
     (λ c. search needs)
     (λ c. search needs)
     (λ c. search needs)
+    (λ c x. ap level (new-root _ _ _ _ _ x _ (c .before .before .before .before .rule .ensures) (search needs) (c .if1 .taken)))
     (λ c. search needs)
-    (λ c. let a = c .before .before .before .before .before .before .before in new-root (recordOf (a .args .shape) (a .args .h .now)) _ _ _ _ _ _ (c .before .before .before .before .before .before .rule .ensures) (search needs) (c .if1 .taken))
-    (λ c κs. let a = c .before .before .before .before .before .before .before in fewer _ _ _ _ (a .pre .0) (a .pre .1) (c .if1 .left))
-    (λ c. let a = c .before .before .before .before .before .before .before .before in upward (recordOf (a .args .shape) (a .args .h .now)) _ _ _ _ _ _ (c .before .before .before .before .before .before .before .rule .ensures) _ (search needs) (a .pre .1 .1) (c .before .if1 .left) (c .ask .ensures))
+    (λ c. search needs)
+    (λ c κs. let a = c .before .before .before .before .before .before in fewer _ _ _ _ (a .pre .0) (a .pre .1) (c .before .if1 .left))
+    (λ c x. let a = c .before .before .before .before .before .before .before in level-upward (recordOf (record { k = a .args .k; c = a .args .c; n = a .args .n }) (a .args .h .now)) _ _ _ _ x _ (c .before .before .before .before .before .before .rule .ensures) _ (search needs) (a .pre .1 .1) (c .before .before .if1 .left) (c .ask .ensures))

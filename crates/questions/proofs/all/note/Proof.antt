@@ -1,7 +1,6 @@
--- By its two cases. Assumes nothing.
+-- By its three cases. Assumes nothing.
 use borrow.Author.Needs.{needs}
-use lib.ListN.{length-set}
-use Rattle.questions.proofs.Tables.{note-yes, note-no}
+use Rattle.questions.proofs.Tables.{note-second, note-first, note-no}
 use Rattle.questions.proofs.all.note.Statement.{statement}
 use Rattle.questions.proofs.all.note.Tie as tie
 
@@ -13,9 +12,11 @@ note-spec =
     (λ c. search needs)
     (λ c. search needs)
     (λ c. search needs)
-    (λ c κs. search needs)
+    (λ c. note-second _ _ _ _ _ (c .before .before .before .before .reaches .ensures) (c .before .before .before .if1 .taken) (c .if2 .taken))
     (λ c. search needs)
     (λ c. search needs)
-    (λ c. simp length-set)
-    (λ c. note-yes _ _ _ _ _ (c .before .before .before .before .reaches .ensures) _ (c .before .before .before .if1 .taken) (c .more .ensures))
+    (λ c. search needs)
+    (λ c. search needs)
+    (λ c. search needs)
+    (λ c. note-first _ _ _ _ _ (c .before .before .before .before .reaches .ensures) (c .before .before .before .if1 .taken) (c .if2 .left))
     (λ c. note-no _ _ _ _ _ (c .before .reaches .ensures) (c .if1 .left)))

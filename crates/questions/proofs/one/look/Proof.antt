@@ -18,13 +18,13 @@ use Rattle.questions.proofs.one.look.Statement.{statement}
 use Rattle.questions.proofs.one.look.Tie as tie
 
 abbrev Inv-loop : tie.InvT-loop
-Inv-loop nodes attributes h quark t at n found s₀ i₀ p₀ nulls₀ kinds₀ span now s i p nulls kinds =
+Inv-loop nodes attributes h quark t at n found s₀ i₀ p₀ nulls₀ kinds₀ span s i p nulls kinds =
     (i ≤ n) × (p ≡ at + entrySize * i)
     × (allSound nodes attributes h at n true ≡ allSound nodes attributes h p (n - i) (eqb nulls 0 && leb kinds 1))
     × (look nodes (quark .0) t at n found ≡ look nodes (quark .0) t p (n - i) s)
 
 abbrev μ-loop : tie.MeasureT-loop
-μ-loop nodes attributes h quark t at n found s₀ i₀ p₀ nulls₀ kinds₀ span now s i p nulls kinds = n - i
+μ-loop nodes attributes h quark t at n found s₀ i₀ p₀ nulls₀ kinds₀ span s i p nulls kinds = n - i
 
 end-fits : (c : tie.After-read-entry Inv-loop μ-loop) → c .read-entry .result .end ≤ 18446744073709551615
 end-fits c = search needs
@@ -33,7 +33,7 @@ returns : tie.Need-returns Inv-loop μ-loop
 returns c =
     let k = c .before .before in
     let inv = k .before .before .loop .inv in
-    let a = k .before .before .before .before .before .before in
+    let a = k .before .before .before .before .before in
     (sym (inv .2 ∙ sound-stop _ _ _ _ _ _ _ _ _ (k .read-entry .ensures) (a .pre .2) (c .before .fits2 .ensures) (k .before .loop-test .taken) (c .if1 .taken)), λ e. absurd (false-is e))
 
 loop-again : tie.Need-loop-again Inv-loop μ-loop
@@ -42,15 +42,14 @@ loop-again c =
     let f = j .before .before in
     let k = f .before .before in
     let l = k .before .before .loop in
-    let a = k .before .before .before .before .before .before in
+    let a = k .before .before .before .before .before in
     let e = k .read-entry .ensures in
     let lt = k .before .loop-test .taken in
-    let told = covers-told _ _ _ _ _ (f .before .fits2 .ensures) (f .if1 .left) (a .args .t) _ in
-    let now = k .before .before .before .since .ensures in
+    let told = covers-told _ _ _ _ _ (f .before .fits2 .ensures) (f .if1 .left) (a .args .t) in
     let Is : Type 0 = c .if2 .s ≡ noted (a .args .quark .0) (a .args .t) (l .p) (k .read-entry .result) (l .s) in
     let is : Is =
-    ⊎-elim {C = Is} (λ w. noted-yes _ _ _ _ _ _ (w .0 .taken) _ (told _ (end-fits k) now (w .1 .ensures)) _ (w .2 .taken) (w .3 .ensures) (w .4))
-    (λ z. ⊎-elim {C = Is} (λ w. noted-no _ _ _ _ _ _ (w .0 .taken) _ (told _ (end-fits k) now (w .1 .ensures)) (w .2 .left) (w .3)) (λ w. noted-other _ _ _ _ _ _ (w .0 .left) (w .1)) z) (c .if2 .came)
+    ⊎-elim {C = Is} (λ w. noted-yes _ _ _ _ _ _ (w .0 .taken) _ (told _ (end-fits k) (w .1 .ensures)) _ (w .2 .taken) (w .3 .ensures) (w .4))
+    (λ z. ⊎-elim {C = Is} (λ w. noted-no _ _ _ _ _ _ (w .0 .taken) _ (told _ (end-fits k) (w .1 .ensures)) (w .2 .left) (w .3)) (λ w. noted-other _ _ _ _ _ _ (w .0 .left) (w .1)) z) (c .if2 .came)
     in (
       omega arith,
       omega arith,
@@ -70,7 +69,6 @@ look-spec =
     Inv-loop
     μ-loop
     (λ c. search needs)
-    (λ c κs. search needs)
     (λ c. (omega arith, omega arith, rw sub-zero, rw sub-zero))
     (λ c κs. search needs)
     (λ c κs. search needs)

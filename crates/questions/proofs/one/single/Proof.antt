@@ -1,5 +1,10 @@
 -- Each `return` cites the law of its way through `singleOf`. Assumes nothing.
 use borrow.Author.Needs.{needs}
+use Prim.Native.Nat.{_<_}
+use mathlib.Core.Path.{refl, ap, subst, _∙_}
+use lib.ListN.{length}
+use Rattle.walk.specs.declared.View.{View}
+use Rattle.walk.specs.View.{longFor}
 use Rattle.walk.proofs.Admitted.{sound-record, sound-view, long-nodes, long-table}
 use Rattle.questions.proofs.Singles.{single-3, single-2, single-7, single-6, single-view}
 use Rattle.questions.proofs.one.single.Statement.{statement}
@@ -33,8 +38,16 @@ admitted-requires : tie.Need-admitted-requires
 admitted-requires c κs =
     let b = c .before .before .before .before .before .before in
     let s = b .before .before .before in
-    let view = sound-view _ _ _ (s .sound .ensures) (b .before .before .if1 .left) (b .before .view-of .ensures) in
-    (view .roomy _ (long-nodes _ _ _ _ (b .long-for .ensures) (c .before .before .before .before .before .if2 .left)), c .before .before .if3 .left, long-table _ _ _ _ (b .long-for .ensures) (c .before .before .before .before .before .if2 .left))
+    let a = s .before .before .before .args in
+    let views = b .before .view-of .ensures in
+    let long = b .long-for .ensures ∙ ap (λ (v : View). longFor v (length (a .nodes .now)) (length (a .table .now))) views in
+    let enough = c .before .before .before .before .before .if2 .left in
+    let view = sound-view _ _ _ (s .sound .ensures) (b .before .before .if1 .left) refl in (
+      sound-record _ _ (s .sound .ensures) (b .before .before .if1 .left),
+      view .roomy _ (long-nodes _ _ _ _ long enough),
+      subst (λ (v : View). a .quark .0 < v .attributes) views (c .before .before .if3 .left),
+      long-table _ _ _ _ long enough,
+    )
 
 returns-5 : tie.Need-returns-5
 returns-5 c =
