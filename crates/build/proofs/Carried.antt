@@ -15,11 +15,11 @@ use Rattle.record.specs.Sound.{lastTime}
 use Rattle.record.specs.Firm.{Firm, Long, SameLevel}
 use Rattle.record.proofs.Kept.{firm-closed, firm-raised, firm-made, firm-stored, firm-stretched}
 use Rattle.record.proofs.Effects.{closed-long, closed-at, closed-other, raised-long, raised-at, made-long, stored-long}
-use Rattle.build.specs.declared.Plan.{Plan}
+use Rattle.settle.specs.declared.Plan.{Plan}
+use Rattle.settle.proofs.Ways.{both, root, chain}
 use Rattle.build.specs.Feasible.{Feasible}
 use Rattle.build.specs.Trial.{riseOn, climbOn, descendOn, placedOn, planned}
 use Rattle.build.specs.Carried.{Alike, Climbing, Descending, Hanging, Landed}
-use Rattle.build.proofs.Ways.{both, root, chain}
 
 -- an entry that was set is at most what it was set to, in a list of any length
 set-most : (xs : List ℕ) (i v : ℕ) → getD (set xs i v) i 0 ≤ v

@@ -18,8 +18,8 @@ use Rattle.record.specs.Firm.{Firm, Long}
 use Rattle.record.specs.Moves.{withLargest, stretched}
 use Rattle.record.proofs.Refusal.{the-type}
 use Rattle.record.proofs.Kept.{firm-stretched}
-use Rattle.build.specs.declared.Plan.{Plan}
-use Rattle.build.specs.Settle.{lowest, taken, settle, planRefusal}
+use Rattle.settle.specs.declared.Plan.{Plan}
+use Rattle.settle.specs.Settle.{lowest, taken, settle, planRefusal}
 use Rattle.build.specs.Moves.{held, Room, Turns, store}
 use Rattle.build.specs.Write.{climb, stretch, placed, written, inserted}
 use Rattle.build.specs.Carried.{Alike}

@@ -1,5 +1,4 @@
 pub mod Taken
-pub mod Ways
 pub mod Plans
 pub mod Carried
 pub mod Trials

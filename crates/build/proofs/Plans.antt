@@ -11,10 +11,10 @@ use Rattle.record.specs.declared.Refusal.the-variants.{Nothing, Deep, NoRoom}
 use Rattle.record.specs.Refusals.{accepted}
 use Rattle.record.specs.Levels.{startAt, intervalsAt, childrenAt, lastEndAt}
 use Rattle.record.specs.Firm.{Firm}
-use Rattle.build.specs.declared.Plan.{Plan}
-use Rattle.build.specs.declared.settle.Verdict.{Verdict}
-use Rattle.build.specs.declared.settle.Verdict.the-variants.{Here, Chain, Close}
-use Rattle.build.specs.Settle.{ruled, followed, plan, askUp, lowest, settle, needed, tooDeep, noRoom, planRefusal}
+use Rattle.settle.specs.declared.Plan.{Plan}
+use Rattle.settle.specs.declared.Verdict.{Verdict}
+use Rattle.settle.specs.declared.Verdict.the-variants.{Here, Chain, Close}
+use Rattle.settle.specs.Settle.{ruled, followed, plan, askUp, lowest, settle, needed, tooDeep, noRoom, planRefusal}
 use Rattle.build.specs.Feasible.{Feasible}
 
 -- ═══ "Each number is given exactly then" ═══

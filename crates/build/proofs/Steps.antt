@@ -13,8 +13,8 @@ use Rattle.record.specs.Record.{History}
 use Rattle.record.specs.Refusals.{accepted}
 use Rattle.record.specs.Levels.{seqAt, startAt, lastEndAt}
 use Rattle.record.specs.Moves.{closed, raised, made, stored, stretched}
-use Rattle.build.specs.declared.Plan.{Plan}
-use Rattle.build.specs.Settle.{settle, planRefusal}
+use Rattle.settle.specs.declared.Plan.{Plan}
+use Rattle.settle.specs.Settle.{settle, planRefusal}
 use Rattle.build.specs.Moves.{Held, Room, putHead, withChild, close, raise, make, store}
 use Rattle.build.specs.Write.{rise, climb, descend, stretch, chained, placed, written, inserted, closeAll, planted}
 use Rattle.build.specs.Trial.{Tried, riseOn, climbOn, descendOn, placedOn, planned, tried}

@@ -8,8 +8,8 @@ use borrow.Author.Tests.{ltb-true, le-ltb}
 use Rattle.record.specs.Record.{History}
 use Rattle.record.specs.declared.Refusal.the-variants.{Nothing}
 use Rattle.record.specs.Levels.{intervalsAt, lastEndAt}
-use Rattle.build.specs.declared.settle.Verdict.the-variants.{Here}
-use Rattle.build.specs.Settle.{fits, room, ruled, plan, followed, askUp, lowest, taken, settle, needed, planRefusal}
+use Rattle.settle.specs.declared.Verdict.the-variants.{Here}
+use Rattle.settle.specs.Settle.{fits, room, ruled, plan, followed, askUp, lowest, taken, settle, needed, planRefusal}
 
 -- both halves of the test
 due-not : (due fit : Bool) → cond due false fit ≡ true → (due ≡ false) × (fit ≡ true)

@@ -18,8 +18,8 @@ use Rattle.record.specs.Levels.{intervalsAt, childrenAt, lastEndAt}
 use Rattle.record.specs.Moves.{withLargest, closed, raised, stored, stretched}
 use Rattle.record.specs.Sound.{lastTime}
 use Rattle.record.specs.Firm.{Firm, Long}
-use Rattle.build.specs.declared.Plan.{Plan}
-use Rattle.build.specs.Settle.{plan, lowest, taken, settle, planRefusal}
+use Rattle.settle.specs.declared.Plan.{Plan}
+use Rattle.settle.specs.Settle.{plan, lowest, taken, settle, planRefusal}
 use Rattle.build.specs.Feasible.{Feasible}
 use Rattle.build.specs.Trial.{Tried, riseOn, climbOn, descendOn, chainOn, placedOn, planned, tried}
 use Rattle.build.specs.Carried.{Alike, Climbing, Descending, Hanging, Landed}

@@ -15,7 +15,7 @@ use Rattle.record.specs.Sound.{lastTime}
 use Rattle.record.specs.Firm.{Firm}
 use Rattle.record.specs.Moves.{stretched}
 use Rattle.record.proofs.Lies.{last-end-lies}
-use Rattle.build.specs.declared.Plan.{Plan}
+use Rattle.settle.specs.declared.Plan.{Plan}
 use Rattle.build.specs.Feasible.{Feasible}
 use Rattle.build.specs.Moves.{Held, held, Room, Standing, Turns, putHead, close, raise, make, store}
 use Rattle.build.specs.Write.{rise, climb, descend, stretch, chained, placed, written, closeAll}

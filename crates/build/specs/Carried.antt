@@ -6,7 +6,7 @@ use Rattle.record.specs.Record.{History}
 use Rattle.record.specs.Levels.{intervalsAt, childrenAt, lastEndAt}
 use Rattle.record.specs.Sound.{lastTime}
 use Rattle.record.specs.Firm.{Firm}
-use Rattle.build.specs.declared.Plan.{Plan}
+use Rattle.settle.specs.declared.Plan.{Plan}
 
 -- the same history: what no storing changes
 pub record Alike (h g : History) : Type 0 where

@@ -4,8 +4,8 @@ use mathlib.Core.Bool.{true, false}
 use mathlib.Core.Path.{_≡_}
 use Rattle.record.specs.Record.{History}
 use Rattle.record.specs.Levels.{intervalsAt, childrenAt}
-use Rattle.build.specs.declared.Plan.{Plan}
-use Rattle.build.specs.Settle.{needed}
+use Rattle.settle.specs.declared.Plan.{Plan}
+use Rattle.settle.specs.Settle.{needed}
 
 pub record Feasible (h : History) (p : Plan) : Type 0 where
   pub level : p .level ≤ 15

@@ -1,4 +1,3 @@
-pub mod Settle
 pub mod Moves
 pub mod Write
 pub mod Trial

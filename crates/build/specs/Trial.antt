@@ -8,8 +8,8 @@ use Rattle.record.specs.declared.Refusal.the-variants.{Nothing}
 use Rattle.record.specs.Refusals.{accepted}
 use Rattle.record.specs.Levels.{lastEndAt}
 use Rattle.record.specs.Moves.{closed, raised, made, stored, stretched}
-use Rattle.build.specs.declared.Plan.{Plan}
-use Rattle.build.specs.Settle.{settle, planRefusal}
+use Rattle.settle.specs.declared.Plan.{Plan}
+use Rattle.settle.specs.Settle.{settle, planRefusal}
 
 unfoldable pub riseOn : History → History
 riseOn h = cond (ltb (h .low) (h .top)) (closed h) (raised h)

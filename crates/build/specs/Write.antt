@@ -9,8 +9,8 @@ use Rattle.record.specs.Record.{History}
 use Rattle.record.specs.Refusals.{accepted}
 use Rattle.record.specs.Levels.{lastEndAt}
 use Rattle.record.specs.Moves.{stretched}
-use Rattle.build.specs.declared.Plan.{Plan}
-use Rattle.build.specs.Settle.{settle, planRefusal}
+use Rattle.settle.specs.declared.Plan.{Plan}
+use Rattle.settle.specs.Settle.{settle, planRefusal}
 use Rattle.build.specs.Moves.{Held, putHead, putNew, close, raise, make, store}
 
 -- one level less is open, or a new root is: the lowest closes

@@ -1,8 +1,7 @@
 // A plan carried out on the record alone: what finish tries before it writes.
-use crate::Plan;
-use crate::settle;
 use layout::Shape;
 use record::Refusal;
+use settle::Plan;
 ghost use mathlib.Core.Path.{_≡_};
 ghost use Prim.Native.Nat.{_+_, _≤_};
 ghost use lib.ListN.{length};

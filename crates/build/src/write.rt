@@ -1,18 +1,17 @@
 // A plan carried out on record and nodes; opening; closing all.
-use crate::Plan;
 use crate::moves;
-use crate::settle;
 use layout::Entry;
 use layout::First;
 use layout::Shape;
 use record::Refusal;
+use settle::Plan;
 ghost use mathlib.Core.Path.{_≡_};
 ghost use Prim.Native.Nat.{_+_, _-_, _≤_, _<_};
 ghost use lib.ListN.{length};
 ghost use Rattle.record.specs.Record.{recordOf, lowIn, topIn};
 ghost use Rattle.record.specs.Sound.{lastTime};
 ghost use Rattle.record.specs.Firm.{Firm};
-ghost use Rattle.build.specs.Settle.{settle, planRefusal};
+ghost use Rattle.settle.specs.Settle.{settle, planRefusal};
 ghost use Rattle.build.specs.Moves.{Room, Standing, Turns};
 ghost use Rattle.build.specs.Feasible.{Feasible};
 ghost use Rattle.build.specs.Carried.{Climbing, Descending, Hanging};

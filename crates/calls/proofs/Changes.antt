@@ -27,7 +27,7 @@ use Rattle.transient.specs.declared.Decision.the-variants as D
 use Rattle.transient.specs.Transient.{tableAt, ongoingAt, ongoingSound, interval, withOngoing, decide}
 use Rattle.transient.proofs.Sound.{ongoing-is}
 use Rattle.transient.proofs.Decisions.{ended-only}
-use Rattle.build.specs.Settle.{settle, planRefusal}
+use Rattle.settle.specs.Settle.{settle, planRefusal}
 use Rattle.build.specs.Moves.{Held, held}
 use Rattle.build.specs.Write.{written, inserted}
 use Rattle.calls.specs.Outcome.{Comes, answered, outcome, orRefused}

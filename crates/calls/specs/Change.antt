@@ -16,7 +16,7 @@ use Rattle.transient.specs.declared.Ongoing.{Ongoing}
 use Rattle.transient.specs.declared.Decision.{Decision}
 use Rattle.transient.specs.declared.Decision.the-variants.{Top, Same, Replaced, Ended}
 use Rattle.transient.specs.Transient.{ongoingAt, ongoingSound, interval, withOngoing, decide}
-use Rattle.build.specs.Settle.{settle, tooDeep, noRoom}
+use Rattle.settle.specs.Settle.{settle, tooDeep, noRoom}
 use Rattle.build.specs.Moves.{held}
 use Rattle.build.specs.Write.{inserted}
 use Rattle.calls.specs.Outcome.{Outcome, answered, outcome, orRefused}

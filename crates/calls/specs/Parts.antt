@@ -16,7 +16,7 @@ use Rattle.record.specs.Firm.{Firm}
 use Rattle.transient.specs.declared.Ongoing.{Ongoing}
 use Rattle.transient.specs.declared.Decision.{Decision}
 use Rattle.transient.specs.Transient.{tableAt, ongoingSound}
-use Rattle.build.specs.Settle.{settle, tooDeep, noRoom}
+use Rattle.settle.specs.Settle.{settle, tooDeep, noRoom}
 use Rattle.build.specs.Moves.{Room}
 use Rattle.calls.specs.Outcome.{Outcome, orRefused}
 use Rattle.calls.specs.Change.{isTop, stores, carried}

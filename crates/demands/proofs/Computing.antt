@@ -5,8 +5,8 @@ use Rattle.record.specs.Refusals as RR
 use Rattle.record.specs.Sound as RS
 use Rattle.record.specs.Moves as RM
 use Rattle.transient.specs.Transient as T
+use Rattle.settle.specs.Settle as S
 use Rattle.build.specs.Moves as BM
-use Rattle.build.specs.Settle as BS
 use Rattle.build.specs.Write as BW
 use Rattle.build.specs.Trial as BT
 use Rattle.calls.specs.Open as O
@@ -31,8 +31,8 @@ unfolding step run entries spoken boundsFrom nodesOf
     RS.shapeAllowed RS.numbersSound RS.all RS.levelSound RS.apart RS.levelsSound RS.startsFall RS.lastEndSound RS.branchSound RS.sound RS.longEnough
     RM.levelNew RM.levelChild RM.levelStored RM.levelClosed RM.withBranch RM.withLargest RM.atTime RM.withAttribute RM.finishedAt RM.closed RM.raised RM.made RM.stored RM.stretched
     T.stateSound T.ongoingAt T.interval T.withOngoing T.begins T.ongoingSound T.increased T.becomes T.sameState T.decided T.decide
+    S.ruled S.followed S.askUp S.lowest S.settle S.needed S.planRefusal
     BM.parentAt BM.headOf BM.standsAt BM.putHead BM.putNew BM.close BM.raise BM.withChild BM.make BM.store
-    BS.ruled BS.followed BS.askUp BS.lowest BS.settle BS.needed BS.planRefusal
     BW.rise BW.climb BW.descend BW.stretch BW.placed BW.written BW.inserted BW.closeAll BW.planted
     BT.riseOn BT.climbOn BT.descendOn BT.placedOn BT.planned BT.tried
     O.blank O.opened O.tableOpened O.openRefusal O.openOn O.openOf

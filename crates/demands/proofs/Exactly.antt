@@ -14,8 +14,8 @@ use Rattle.record.specs.Refusals.{numberOf, firstOf, accepted}
 use Rattle.transient.specs.declared.Change.{Change}
 use Rattle.transient.specs.declared.Change.the-variants.{Set, Remove, Increment}
 use Rattle.transient.specs.Transient.{ongoingAt}
-use Rattle.build.specs.declared.Plan.{Plan}
-use Rattle.build.specs.Settle.{settle, tooDeep, noRoom, planRefusal}
+use Rattle.settle.specs.declared.Plan.{Plan}
+use Rattle.settle.specs.Settle.{settle, tooDeep, noRoom, planRefusal}
 use Rattle.build.specs.Trial.{Tried, planned, tried}
 use Rattle.calls.specs.Outcome.{Outcome}
 use Rattle.calls.specs.Open.{openRefusal, openOf}

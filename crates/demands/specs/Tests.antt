@@ -11,7 +11,7 @@ use Rattle.record.specs.declared.Refusal.the-variants.{Short, Damaged, Outside,
 use Rattle.record.specs.Sound.{sound, longEnough}
 use Rattle.transient.specs.declared.Change.the-variants.{Set, Remove, Increment}
 use Rattle.transient.specs.Transient.{ongoingAt}
-use Rattle.build.specs.Settle.{settle, tooDeep, noRoom}
+use Rattle.settle.specs.Settle.{settle, tooDeep, noRoom}
 use Rattle.build.specs.Trial.{planned}
 use Rattle.calls.specs.Open.{openTests}
 use Rattle.calls.specs.Change.{changeTests}

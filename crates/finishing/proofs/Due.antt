@@ -19,7 +19,7 @@ use Rattle.record.specs.Levels.{placeAt, intervalsAt}
 use Rattle.record.specs.Sound.{lastTime}
 use Rattle.record.specs.Firm.{Firm}
 use Rattle.record.specs.Moves.{withBranch, withLargest, levelStored, stored, stretched}
-use Rattle.build.specs.Settle.{lowest, taken}
+use Rattle.settle.specs.Settle.{lowest, taken}
 use Rattle.build.specs.Moves.{held, Room, Standing, openEnd, headOf, standsAt, putHead, Turns, added, store}
 use Rattle.build.specs.Write.{inserted}
 use Rattle.build.proofs.Stands.{length-head, open-stands}

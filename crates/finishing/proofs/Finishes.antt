@@ -21,9 +21,9 @@ use Rattle.record.proofs.Facts.{admitted-facts, sound-firm, sound-numbers}
 use Rattle.record.proofs.Runs.{all-none, all-fails, all-turn}
 use Rattle.transient.specs.declared.Ongoing.{Ongoing}
 use Rattle.transient.specs.Transient.{tableAt, ongoingAt, ongoingSound, interval}
+use Rattle.settle.specs.Settle.{settle, planRefusal}
 use Rattle.build.specs.Moves.{Held, held, Room}
 use Rattle.build.specs.Write.{inserted, closeAll}
-use Rattle.build.specs.Settle.{settle, planRefusal}
 use Rattle.build.specs.Trial.{Tried, tried}
 use Rattle.build.proofs.Trials.{tried-firm, tried-refusal}
 use Rattle.build.proofs.Steps.{inserted-history, inserted-length}

@@ -74,8 +74,8 @@ fn store_one(nodes: &mut [u8], shape: Shape, h: &mut [u64; 87], e: Entry, due: u
     requires { ⌜ (length (now h) ≡ 87) × Firm (recordOf shape (now h)) × Room (recordOf shape (now h)) (now nodes) × Due (recordOf shape (now h)) due × (e .end ≤ lastTime) ⌝ }
     ensures { λ r. ⌜ Due (recordOf shape (now (h .exit))) r × Turns shape (now (h .entry)) (caughtUp (recordOf shape (now (h .entry))) due (now (nodes .entry))) (now (h .exit)) (caughtUp (recordOf shape (now (h .exit))) r (now (nodes .exit))) (inserted e) ⌝ }
 {
-    let level = build::settle::seek(h, e.start);
-    if build::settle::takes(shape, h, e.start, level) {
+    let level = settle::seek(h, e.start);
+    if settle::takes(shape, h, e.start, level) {
         if level != due {
             write_due(nodes, shape, h, due);
         }

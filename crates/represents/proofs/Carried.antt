@@ -12,12 +12,12 @@ use Rattle.record.specs.Record.{History}
 use Rattle.record.specs.declared.Refusal.the-variants.{Nothing}
 use Rattle.record.specs.Levels.{lastEndAt}
 use Rattle.record.specs.Moves.{withLargest, stretched}
-use Rattle.build.specs.declared.Plan.{Plan}
-use Rattle.build.specs.declared.settle.Verdict.the-variants.{Here, Chain, Close}
-use Rattle.build.specs.Settle.{ruled, plan, askUp, lowest, settle, needed, planRefusal}
+use Rattle.settle.specs.declared.Plan.{Plan}
+use Rattle.settle.specs.declared.Verdict.the-variants.{Here, Chain, Close}
+use Rattle.settle.specs.Settle.{ruled, plan, askUp, lowest, settle, needed, planRefusal}
+use Rattle.settle.proofs.Ways.{here, chained, new-root, upward}
 use Rattle.build.specs.Moves.{Held, store}
 use Rattle.build.specs.Write.{climb, descend, stretch, placed, written}
-use Rattle.build.proofs.Ways.{here, chained, new-root, upward}
 use Rattle.build.proofs.Plans.{then-room}
 use Rattle.model.specs.Build as M
 use Rattle.model.specs.Transient.{Interval}

@@ -17,7 +17,7 @@ use Rattle.record.specs.Sound.{lastTime}
 use Rattle.transient.specs.declared.Ongoing.{Ongoing}
 use Rattle.transient.specs.declared.Decision.{Decision}
 use Rattle.transient.specs.Transient.{ongoingAt, ongoingSound, decide}
-use Rattle.build.specs.Settle.{settle, tooDeep, noRoom, planRefusal}
+use Rattle.settle.specs.Settle.{settle, tooDeep, noRoom, planRefusal}
 use Rattle.build.specs.Moves.{held}
 use Rattle.calls.specs.Change as C
 use Rattle.calls.specs.Change.{changeRefusal}

@@ -16,7 +16,7 @@ use Rattle.record.specs.Moves.{atTime}
 use Rattle.transient.specs.declared.Ongoing.{Ongoing}
 use Rattle.transient.specs.Transient.{ongoingAt, interval, withOngoing, decide, OngoingFits}
 use Rattle.transient.proofs.Table.{entry-room, length-with, ongoing-back, ongoing-other}
-use Rattle.build.specs.Settle.{settle, planRefusal}
+use Rattle.settle.specs.Settle.{settle, planRefusal}
 use Rattle.build.specs.Moves.{held}
 use Rattle.build.specs.Write.{inserted}
 use Rattle.build.specs.Carried.{Alike}

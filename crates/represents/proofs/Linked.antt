@@ -15,8 +15,8 @@ use Rattle.record.specs.Record.{History}
 use Rattle.record.specs.declared.Refusal.{Refusal}
 use Rattle.record.specs.declared.Refusal.the-variants.{Nothing, Deep, NoRoom}
 use Rattle.record.specs.Refusals.{numberOf, accepted}
-use Rattle.build.specs.declared.Plan.{Plan}
-use Rattle.build.specs.Settle.{settle, needed, tooDeep, noRoom, planRefusal}
+use Rattle.settle.specs.declared.Plan.{Plan}
+use Rattle.settle.specs.Settle.{settle, needed, tooDeep, noRoom, planRefusal}
 use Rattle.build.specs.Moves.{Held}
 use Rattle.build.specs.Write.{written, inserted}
 use Rattle.build.proofs.Steps.{inserted-length}

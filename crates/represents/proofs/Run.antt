@@ -7,7 +7,7 @@ use Rattle.layout.specs.declared.Shape.{Shape}
 use Rattle.record.specs.declared.Refusal.{Refusal}
 use Rattle.record.specs.declared.Refusal.the-variants.{Nothing}
 use Rattle.record.specs.Refusals.{numberOf, accepted}
-use Rattle.build.specs.Settle.{settle, planRefusal}
+use Rattle.settle.specs.Settle.{settle, planRefusal}
 use Rattle.build.specs.Moves.{Held}
 use Rattle.build.specs.Write.{inserted}
 use Rattle.build.specs.Trial.{tried}

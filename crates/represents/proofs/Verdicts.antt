@@ -11,9 +11,9 @@ use borrow.Author.Tests.{lt-ltb, le-ltb, ltb-true}
 use Rattle.layout.specs.declared.Shape.{Shape}
 use Rattle.record.specs.Record.{Branch}
 use Rattle.record.specs.Levels.{childrenAt}
-use Rattle.build.specs.declared.settle.Verdict.the-variants.{Here, Chain, Close}
-use Rattle.build.specs.declared.settle.Verdict as B
-use Rattle.build.specs.Settle.{ruled}
+use Rattle.settle.specs.declared.Verdict.the-variants.{Here, Chain, Close}
+use Rattle.settle.specs.declared.Verdict as S
+use Rattle.settle.specs.Settle.{ruled}
 use Rattle.model.specs.Build as M
 use Rattle.model.specs.Transient.{Interval}
 use Rattle.model.specs.Build.{Subtrees, childless, also, Open, next, many, gathered, adopt, newRoot, Verdict, grow, keep, shut, due, verdict, grown, ask, depth}
@@ -22,7 +22,7 @@ use Rattle.model.proofs.NewRoot.{new-root-due}
 use Rattle.represents.specs.Represents.{shapeOf, Line, Lines, Ended}
 use Rattle.represents.proofs.Lines.{counted}
 
-abbrev pub said : Verdict → B.Verdict
+abbrev pub said : Verdict → S.Verdict
 said grow = Chain
 said keep = Here
 said shut = Close

@@ -1,8 +1,8 @@
--- `build::settle::refusal` meets its contract: depth, then room. Assumes nothing.
+-- `settle::refusal` meets its contract: depth, then room. Assumes nothing.
 use borrow.Author.Needs.{needs}
-use Rattle.build.proofs.Ways.{answers}
-use Rattle.build.proofs.settle.refusal.Statement.{statement}
-use Rattle.build.proofs.settle.refusal.Tie as tie
+use Rattle.settle.proofs.Ways.{answers}
+use Rattle.settle.proofs.refusal.Statement.{statement}
+use Rattle.settle.proofs.refusal.Tie as tie
 
 pub refusal-spec : {M : Type 1} → statement M
 refusal-spec =

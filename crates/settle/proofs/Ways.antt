@@ -14,10 +14,10 @@ use Rattle.record.specs.Record.{Branch, History, branchOf, recordOf}
 use Rattle.record.specs.Levels.{childrenAt}
 use Rattle.record.proofs.Lies.{start-lies, intervals-lie, children-lie, last-end-lies}
 use Rattle.record.specs.declared.Refusal.the-variants.{Nothing, Deep, NoRoom}
-use Rattle.build.specs.declared.Plan.{Plan}
-use Rattle.build.specs.declared.settle.Verdict.{Verdict}
-use Rattle.build.specs.declared.settle.Verdict.the-variants.{Here, Chain, Close}
-use Rattle.build.specs.Settle.{fits, ruled, plan, followed, askUp, lowest, settle, needed, planRefusal}
+use Rattle.settle.specs.declared.Plan.{Plan}
+use Rattle.settle.specs.declared.Verdict.{Verdict}
+use Rattle.settle.specs.declared.Verdict.the-variants.{Here, Chain, Close}
+use Rattle.settle.specs.Settle.{fits, ruled, plan, followed, askUp, lowest, settle, needed, planRefusal}
 
 -- ═══ Rules 1 and 2, as they are read in the array ═══
 

@@ -1,9 +1,9 @@
--- `build::settle::takes` meets its contract. Assumes nothing.
+-- `settle::takes` meets its contract. Assumes nothing.
 use borrow.Author.Needs.{needs}
 use Rattle.record.proofs.Lies.{intervals-lie, last-end-lies}
-use Rattle.build.specs.Settle.{taken}
-use Rattle.build.proofs.settle.takes.Statement.{statement}
-use Rattle.build.proofs.settle.takes.Tie as tie
+use Rattle.settle.specs.Settle.{taken}
+use Rattle.settle.proofs.takes.Statement.{statement}
+use Rattle.settle.proofs.takes.Tie as tie
 
 pub takes-spec : {M : Type 1} → statement M
 unfolding taken

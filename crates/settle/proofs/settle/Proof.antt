@@ -1,10 +1,10 @@
--- `build::settle::settle` meets its contract: the level that the question comes to tells the plan. Assumes nothing.
+-- `settle::settle` meets its contract: the level that the question comes to tells the plan. Assumes nothing.
 use native.Mathlib.Omega.{arith}
 use borrow.Author.Needs.{needs}
 use Rattle.record.specs.Record.{recordOf}
-use Rattle.build.proofs.Ways.{no-lower, stays, goes-up, settled}
-use Rattle.build.proofs.settle.settle.Statement.{statement}
-use Rattle.build.proofs.settle.settle.Tie as tie
+use Rattle.settle.proofs.Ways.{no-lower, stays, goes-up, settled}
+use Rattle.settle.proofs.settle.Statement.{statement}
+use Rattle.settle.proofs.settle.Tie as tie
 
 pub settle-spec : {M : Type 1} → statement M
 settle-spec =

@@ -1,13 +1,13 @@
--- `build::settle::seek` meets its contract: what is left to look through gives the same level as the whole. Assumes nothing.
+-- `settle::seek` meets its contract: what is left to look through gives the same level as the whole. Assumes nothing.
 use Prim.Native.Nat.{_≤_, _-_}
 use mathlib.Core.Path.{_≡_, refl}
 use lib.ListN.{getD}
 use borrow.Author.Needs.{needs}
 use Rattle.record.specs.Record.{branchOf}
-use Rattle.build.specs.Settle.{lowest}
-use Rattle.build.proofs.Ways.{found, passed, at-root}
-use Rattle.build.proofs.settle.seek.Statement.{statement}
-use Rattle.build.proofs.settle.seek.Tie as tie
+use Rattle.settle.specs.Settle.{lowest}
+use Rattle.settle.proofs.Ways.{found, passed, at-root}
+use Rattle.settle.proofs.seek.Statement.{statement}
+use Rattle.settle.proofs.seek.Tie as tie
 
 abbrev Inv-loop : tie.InvT-loop
 Inv-loop h s top level₀ level =

@@ -1,8 +1,8 @@
--- `build::settle::rule` meets its contract. Assumes nothing.
+-- `settle::rule` meets its contract. Assumes nothing.
 use borrow.Author.Needs.{needs}
-use Rattle.build.proofs.Ways.{ruled-ways}
-use Rattle.build.proofs.settle.rule.Statement.{statement}
-use Rattle.build.proofs.settle.rule.Tie as tie
+use Rattle.settle.proofs.Ways.{ruled-ways}
+use Rattle.settle.proofs.rule.Statement.{statement}
+use Rattle.settle.proofs.rule.Tie as tie
 
 pub rule-spec : {M : Type 1} → statement M
 rule-spec =

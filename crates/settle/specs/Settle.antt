@@ -9,9 +9,9 @@ use Rattle.record.specs.declared.Refusal.{Refusal}
 use Rattle.record.specs.declared.Refusal.the-variants.{Deep, NoRoom}
 use Rattle.record.specs.Refusals.{firstOf}
 use Rattle.record.specs.Levels.{startAt, intervalsAt, childrenAt, lastEndAt}
-use Rattle.build.specs.declared.Plan.{Plan}
-use Rattle.build.specs.declared.settle.Verdict.{Verdict}
-use Rattle.build.specs.declared.settle.Verdict.the-variants.{Here, Chain, Close}
+use Rattle.settle.specs.declared.Plan.{Plan}
+use Rattle.settle.specs.declared.Verdict.{Verdict}
+use Rattle.settle.specs.declared.Verdict.the-variants.{Here, Chain, Close}
 
 -- ═══ Rules 1 and 2 ═══
 

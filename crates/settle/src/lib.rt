@@ -1,11 +1,18 @@
-// Where an interval goes. "To store an interval starting at s, take the lowest open node with start at or below s."
-use crate::Plan;
+// Where an interval goes, and whether there is depth and room for it. "To store an interval starting at s, take the lowest open node with start at or below s."
 use layout::Shape;
 use record::Refusal;
 ghost use mathlib.Core.Path.{_≡_};
 ghost use Prim.Native.Nat.{ℕ, _-_, _≤_, _<_};
 ghost use Rattle.record.specs.Record.{branchOf, recordOf, usedIn, lowIn, topIn};
-ghost use Rattle.build.specs.Settle.{ruled, askUp, lowest, taken, settle, needed, planRefusal};
+ghost use Rattle.settle.specs.Settle.{ruled, askUp, lowest, taken, settle, needed, planRefusal};
+
+// What is to be done to store an interval: close so many levels from the lowest up (one above the root is a new root),
+// then make a chain below `level` and store in its lowest node, or store in `level`.
+pub struct Plan {
+    pub closes: u64,
+    pub level: u64,
+    pub chain: bool,
+}
 
 // What rules 1 and 2 say of a node.
 pub enum Verdict {

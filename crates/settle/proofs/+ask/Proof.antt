@@ -1,4 +1,4 @@
--- `build::settle::ask` meets its contract. Its measure is the number of open levels above; each `return` cites the law of its way through `askUp`.
+-- `settle::ask` meets its contract. Its measure is the number of open levels above; each `return` cites the law of its way through `askUp`.
 -- Assumes nothing.
 use Prim.Native.Nat.{ℕ, _<_, _-_}
 use mathlib.Core.Path.{ap}
@@ -7,14 +7,14 @@ use borrow.Author.Needs.{needs}
 use borrow.Fn.Kinds.{In}
 use borrow.Fn.PlainCycle.{Measures, is, falls, and}
 use Rattle.record.specs.Record.{recordOf}
-use Rattle.build.specs.declared.Plan.{Plan}
-use Rattle.build.proofs.Ways.{here, chained, new-root, level-upward, fewer}
-use Rattle.build.proofs.settle.ask.Reads as ask
-use Rattle.build.proofs.settle.ask.Kinds as ask-kinds
-use Rattle.build.proofs.settle.+ask.Lts-ask as ask-lts
-use Rattle.build.proofs.settle.rule.Reads as rule-reads
-use Rattle.build.proofs.settle.+ask.{statement}
-use Rattle.build.proofs.settle.+ask.Tie.{close}
+use Rattle.settle.specs.declared.Plan.{Plan}
+use Rattle.settle.proofs.Ways.{here, chained, new-root, level-upward, fewer}
+use Rattle.settle.proofs.ask.Reads as ask
+use Rattle.settle.proofs.ask.Kinds as ask-kinds
+use Rattle.settle.proofs.+ask.Lts-ask as ask-lts
+use Rattle.settle.proofs.rule.Reads as rule-reads
+use Rattle.settle.proofs.+ask.{statement}
+use Rattle.settle.proofs.+ask.Tie.{close}
 
 abbrev μ-ask : Measures 1 ask-kinds.ps ℕ
 μ-ask κs a = getD (a .1 .1 .1 .0 .now) 86 0 - a .1 .1 .1 .1 .1 .0
