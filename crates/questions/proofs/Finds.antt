@@ -22,10 +22,6 @@ use Rattle.walk.proofs.Walks.{step-keeps, root-inside}
 
 -- ---- one entry
 
-pub more-first : (s p : ℕ) → s ≡ 0 → p + 1 ≡ more s p
-unfolding more
-more-first s p e = rw (eq-eqb s 0 e)
-
 pub more-many : (s p : ℕ) → (s ≡ 0 → ⊥) → many ≡ more s p
 unfolding more
 more-many s p e = rw (ne-eqb s 0 e)
@@ -35,14 +31,9 @@ module _ (q t p : ℕ) (e : Entry) (s r : ℕ) where
   unfolding noted
   noted-other n g = rw (ne-eqb (e .quark .0) q n) g
 
-  module _ (same : e .quark .0 ≡ q) (b : Bool) (is : b ≡ covers t e) where
-    pub noted-yes : (m : ℕ) → b ≡ true → m ≡ more s p → r ≡ m → r ≡ noted q t p e s
-    unfolding noted
-    noted-yes m y f g = rw (eq-eqb (e .quark .0) q same, ← is, y) (g ∙ f)
-
-    pub noted-no : b ≡ false → r ≡ s → r ≡ noted q t p e s
-    unfolding noted
-    noted-no n g = rw (eq-eqb (e .quark .0) q same, ← is, n) g
+  pub noted-same : e .quark .0 ≡ q → r ≡ cond (covers t e) (more s p) s → r ≡ noted q t p e s
+  unfolding noted
+  noted-same same g = rw (eq-eqb (e .quark .0) q same) g
 
 -- ---- a node's entries
 

@@ -1,4 +1,5 @@
 pub mod Finds
+pub mod Hits
 pub mod Singles
 pub mod After
 pub mod Tables

@@ -19,8 +19,8 @@ ghost use Rattle.record.specs.Sound.{sound};
 ghost use Rattle.walk.specs.View.{viewOf, Roomy};
 ghost use Rattle.walk.specs.Walk.{allSound};
 ghost use Rattle.walk.specs.Way.{soundAlong, Stands};
-ghost use Rattle.questions.specs.Found.{more, look, shown};
-ghost use Rattle.questions.specs.Along.{lookAlong};
+ghost use Rattle.questions.specs.Found.{look, shown};
+ghost use Rattle.questions.specs.Along.{joined, lookAlong};
 ghost use Rattle.questions.specs.Single.{refusedSingle, walkedSingle, viewSingle, singleOf};
 
 // What was found for a quark: 0 nothing, p + 1 the one entry at byte p, MANY more than one.
@@ -32,11 +32,18 @@ pub struct Seen {
     pub found: u32,
 }
 
-fn more(s: u32, p: usize) -> u32
-    requires { ⌜ p + entrySize ≤ 4294967296 ⌝ }
-    ensures { λ r. ⌜ r ≡ more s p ⌝ }
+// What a node adds to what was found before it: so many of its entries cover t, and the p + 1 of their bytes add up to `sum`.
+fn joined(found: u32, hits: u32, sum: u64) -> u32
+    requires { ⌜ (hits ≡ 1 → sum < 4294967296) ⌝ }
+    ensures { λ r. ⌜ r ≡ joined found hits sum ⌝ }
 {
-    if s == 0 { (p + 1) as u32 } else { MANY }
+    if hits == 0 {
+        return found;
+    }
+    if (hits == 1) & (found == 0) {
+        return sum as u32;
+    }
+    MANY
 }
 
 // Each of a node's entries is read once, for R6 and for the quark asked, up to the first that does not fit; the kinds and the nulls' values are tested at the end, for all of them at once. What was found matters only where none breaks R6.
@@ -53,33 +60,34 @@ fn look(
     requires { ⌜ (at + entrySize * n ≤ length (now nodes)) × (at + entrySize * n ≤ 4294967296) × (h .start ≤ h .end) ⌝ }
     ensures { λ r. ⌜ (r .sound ≡ allSound (now (nodes .entry)) attributes h at n true) × (r .sound ≡ true → r .found ≡ look (now (nodes .entry)) (quark .0) t at n found) ⌝ }
 {
-    let mut s = found;
-    let mut i: u32 = 0;
     let mut p = at;
+    let end = at + layout::ENTRY * (n as usize);
     let mut nulls: u64 = 0;
     let mut kinds: u64 = 0;
+    let mut hits: u32 = 0;
+    let mut sum: u64 = 0;
     let span = h.end - h.start;
-    while i < n {
+    let now = rules::since(h.start, t);
+    while p < end {
         let e = layout::read_entry(nodes, p);
         if !rules::fits(attributes, h.start, span, e) {
             return Seen {
                 sound: false,
-                found: s,
+                found: found,
             };
         }
         kinds = rules::kinds(kinds, e);
         nulls = rules::nulls(nulls, e);
         if e.quark.0 == quark.0 {
-            if rules::reaches(t, e) {
-                s = more(s, p);
-            }
+            let hit = rules::hit(h.start, now, e);
+            hits += hit;
+            sum += hit as u64 * (p as u64 + 1);
         }
         p += layout::ENTRY;
-        i += 1;
     }
     Seen {
         sound: (nulls == 0) & (kinds <= 1),
-        found: s,
+        found: joined(found, hits, sum),
     }
 }
 

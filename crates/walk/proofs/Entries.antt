@@ -12,7 +12,7 @@ use Rattle.layout.specs.declared.Header.{Header}
 use Rattle.transient.specs.Transient.{stateSound}
 use Rattle.transient.proofs.Sound.{kind-bad}
 use Rattle.walk.specs.Rules.{entrySound, covers}
-use Rattle.walk.specs.Since.{since, entryFits, reaches}
+use Rattle.walk.specs.Since.{since, entryFits, reaches, spans}
 use Rattle.walk.proofs.Broken.{and-left, and-right, and-no}
 
 -- ---- a time counted from a start on
@@ -197,6 +197,29 @@ reaches-covers t e order last = ap (leb (since (e .start) t)) (since-from (e .st
         let k = since-before (e .start) t h in
         lt-leb (since (e .start) t) (e .end - e .start) (omega arith)
 
+spans-covers : (a start end t now : ℕ) (e : Entry) → Fits a start end e → e .end ≤ 18446744073709551615 → now ≡ since start t → spans start now e ≡ covers t e
+unfolding spans covers
+spans-covers a start end t now e f last is =
+    ap (λ (x : ℕ). leb x now && leb now (since start (e .end))) (since-from start (e .start) (f .from))
+    ∙ ap (λ (x : ℕ). leb (e .start - start) now && leb now x) (since-from start (e .end) (omega (arith, f .from, f .order)))
+    ∙ go (leb start t) refl
+  where
+    both : (b : Bool) (x y x′ y′ : ℕ) → leb x y ≡ b → (x ≤ y → x′ ≤ y′) → (y < x → y′ < x′) → leb x y ≡ leb x′ y′
+    both true x y x′ y′ g u v = g ∙ sym (le-leb x′ y′ (u (leb-true x y g)))
+    both false x y x′ y′ g u v = g ∙ sym (lt-leb x′ y′ (v (leb-false x y g)))
+
+    go : (b : Bool) → leb start t ≡ b → (leb (e .start - start) now && leb now (e .end - start)) ≡ (leb (e .start) t && leb t (e .end))
+    go true g =
+        let h = leb-true _ _ g in
+        let k : now ≡ t - start = is ∙ since-from start t h in
+        ap (λ (x : Bool). x && leb now (e .end - start)) (both (leb (e .start - start) now) (e .start - start) now (e .start) t refl (λ u. omega (arith, f .from)) (λ u. omega (arith, f .from)))
+        ∙ ap (λ (x : Bool). leb (e .start) t && x) (both (leb now (e .end - start)) now (e .end - start) t (e .end) refl (λ u. omega (arith, f .from, f .order)) (λ u. omega (arith, f .from, f .order)))
+    go false g =
+        let h = leb-false _ _ g in
+        let k : now ≡ t + 18446744073709551616 - start = is ∙ since-before start t h in
+        and-no (leb (e .start - start) now) _ (lt-leb now (e .end - start) (omega (arith, f .from, f .order)))
+        ∙ sym (ap (λ (x : Bool). x && leb t (e .end)) (lt-leb (e .start) t (omega (arith, f .from))))
+
 module _ (a start end : ℕ) (e : Entry) (f : Bool) (gives : f ≡ entryFits a start end e) (y : not f ≡ false) where
   fitting : Fits a start end e
   fitting = fits-facts a start end e (sym gives ∙ not-false f y)
@@ -206,3 +229,6 @@ module _ (a start end : ℕ) (e : Entry) (f : Bool) (gives : f ≡ entryFits a s
 
   pub covers-told : (t : ℕ) (b : Bool) → e .end ≤ 18446744073709551615 → b ≡ reaches t e → b ≡ covers t e
   covers-told t b last r = r ∙ reaches-covers t e (fitting .order) last
+
+  pub hit-told : (t now x : ℕ) → e .end ≤ 18446744073709551615 → now ≡ since start t → x ≡ cond (spans start now e) 1 0 → x ≡ cond (covers t e) 1 0
+  hit-told t now x last is r = r ∙ ap (λ (b : Bool). cond b 1 0) (spans-covers a start end t now e fitting last is)

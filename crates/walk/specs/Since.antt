@@ -15,3 +15,7 @@ entryFits attributes start end e = ltb (e .quark .0) attributes && leb (e .start
 -- t counted from the entry's own start on is no further than its end: what is before the start comes out behind it
 unfoldable pub reaches : ℕ → Entry → Bool
 reaches t e = leb (since (e .start) t) (since (e .start) (e .end))
+
+-- an entry's times, counted from `start` on, lie on either side of `now`
+unfoldable pub spans : ℕ → ℕ → Entry → Bool
+spans start now e = leb (since start (e .start)) now && leb now (since start (e .end))
