@@ -1,7 +1,8 @@
 //! The library beside plain Rust on the same work, and beside what a lab would use instead.
 //!
-//!   bench compare     only compares: every answer and every byte, no time is taken
-//!   bench             compares, then prints the tables
+//!   bench compare          only compares: every answer and every byte, no time is taken
+//!   bench turns            compares, then times each line of the tables a few times and prints what each turn took
+//!   bench tables FILE...   prints the tables, from what several runs of `bench turns` have printed, and what a lab would use instead
 
 mod baseline;
 mod comb;
@@ -17,8 +18,11 @@ use seeded::{seed, Seeded};
 use sides::*;
 use work::*;
 
-/// How often each side of a line takes its turn.
-const TURNS: usize = 21;
+// All code behind this lies so many bytes further on: tests/bench/run says why.
+std::arch::global_asm!(".pushsection .text.further, \"axR\", @progbits", concat!(".skip ", env!("FURTHER")), ".popsection");
+
+/// How often each side of a line takes its turn in one run of the program.
+const TURNS: usize = 3;
 
 /// What is made and timed: a table's line.
 struct Line {
@@ -121,37 +125,98 @@ fn growing(seeded: &mut Seeded, scale: u32) -> Vec<(&'static str, Vec<Line>)> {
         let name = format!("finish, K 2,028, attributes: {}", count);
         attributes.push(line(&name, finishes(count, (scale * 400 / (count + 100) + 1) as usize)));
     }
-    vec![("with the depth", depth), ("with K", nodes), ("with the attributes", attributes)]
+    vec![
+        ("How cost grows with the depth", depth),
+        ("How cost grows with K", nodes),
+        ("How cost grows with the attributes", attributes),
+    ]
 }
 
-fn print(lines: &[Line], turns: usize) {
-    println!("  {:38} {:>12} {:>12} {:>8}", "nanoseconds a call", "library", "baseline", "ratio");
-    for Line { name, work } in lines {
-        let (mut ours, mut theirs) = compare(name, work);
-        let (library, baseline, ratio) = times(work, &mut ours, &mut theirs, turns);
-        let refused = (work.built..work.calls()).filter(|&call| ours.refusal(call) != 0).count();
-        let word = if refused > 0 { format!("   {} of {} refused", refused, work.calls() - work.built) } else { String::new() };
-        println!("  {:38} {:12.0} {:12.0} {:8.2}{}", name, library, baseline, ratio, word);
+/// The tables with their titles.
+fn tables(seeded: &mut Seeded, scale: u32, growth: u32) -> Vec<(&'static str, Vec<Line>)> {
+    let mut tables = vec![("Calls and questions: library / baseline", calls_and_questions(seeded, scale))];
+    tables.extend(growing(seeded, growth));
+    tables
+}
+
+/// One line for each turn: its table, its name, the nanoseconds of both sides, and how many of the timed calls are refused.
+fn turns(seeded: &mut Seeded) {
+    for (title, lines) in tables(seeded, 1_000, 500) {
+        for Line { name, work } in lines {
+            let (mut ours, mut theirs) = compare(&name, &work);
+            let refused = (work.built..work.calls()).filter(|&call| ours.refusal(call) != 0).count();
+            for (library, baseline) in times(&work, &mut ours, &mut theirs, TURNS) {
+                println!("{}\t{}\t{}\t{}\t{}", title, name, library, baseline, refused);
+            }
+        }
+    }
+}
+
+/// The turns of a file that `bench turns` printed, by table and line, and what there is to say of refusals.
+fn read(file: &str) -> Vec<((String, String, String), Turns)> {
+    let text = std::fs::read_to_string(file).unwrap_or_else(|error| panic!("{}: {}", file, error));
+    let mut lines: Vec<((String, String, String), Turns)> = Vec::new();
+    for turn in text.lines() {
+        let words: Vec<&str> = turn.split('\t').collect();
+        let line = (words[0].to_string(), words[1].to_string(), words[4].to_string());
+        let took = (words[2].parse().unwrap(), words[3].parse().unwrap());
+        match lines.last_mut() {
+            Some((last, turns)) if *last == line => turns.push(took),
+            _ => lines.push((line, vec![took])),
+        }
+    }
+    lines
+}
+
+/// Medians over all turns of all runs, and between what the ratios of the single runs lie.
+fn print(files: &[String]) {
+    let runs: Vec<_> = files.iter().map(|file| read(file)).collect();
+    let mut last = "";
+    for (i, ((title, name, refused), _)) in runs[0].iter().enumerate() {
+        if *title != last {
+            println!("\n{}", title);
+            println!("  {:34} {:>10} {:>10} {:>7}   {}", "nanoseconds a call", "library", "baseline", "ratio", "in one run");
+            last = title;
+        }
+        let of_line: Vec<&Turns> = runs.iter().map(|run| &run[i].1).collect();
+        let all = || of_line.iter().flat_map(|turns| turns.iter());
+        let ratio = |turns: &Turns| median(turns.iter().map(|(library, baseline)| library / baseline).collect());
+        let mut ratios: Vec<f64> = of_line.iter().map(|turns| ratio(turns)).collect();
+        ratios.sort_by(f64::total_cmp);
+        let word = if refused != "0" { format!("   {} refused", refused) } else { String::new() };
+        println!(
+            "  {:34} {:10.0} {:10.0} {:7.2}   {:.2} to {:.2}{}",
+            name,
+            median(all().map(|turn| turn.0).collect()),
+            median(all().map(|turn| turn.1).collect()),
+            median(all().map(|(library, baseline)| library / baseline).collect()),
+            ratios[0],
+            ratios[ratios.len() - 1],
+            word
+        );
     }
 }
 
 fn main() {
+    let words: Vec<String> = std::env::args().skip(1).collect();
     let mut seeded = Seeded::case(seed(), 0);
-    if std::env::args().nth(1).as_deref() == Some("compare") {
-        let mut lines = calls_and_questions(&mut seeded, 100);
-        lines.extend(growing(&mut seeded, 100).into_iter().flat_map(|(_, lines)| lines));
-        let calls: usize = lines.iter().map(|line| line.work.calls()).sum();
-        lines.iter().for_each(|line| drop(compare(&line.name, &line.work)));
-        println!("library and baseline agree on {} calls, every answer and every byte", calls);
-        return;
+    match words.first().map(|word| word.as_str()) {
+        Some("compare") => {
+            let lines: Vec<Line> = tables(&mut seeded, 100, 100).into_iter().flat_map(|(_, lines)| lines).collect();
+            let calls: usize = lines.iter().map(|line| line.work.calls()).sum();
+            lines.iter().for_each(|line| drop(compare(&line.name, &line.work)));
+            println!("library and baseline agree on {} calls, every answer and every byte", calls);
+        }
+        Some("turns") => turns(&mut seeded),
+        Some("tables") if words.len() > 1 => {
+            print(&words[1..]);
+            // Their figures stand in the papers: they do not depend on what was drawn before them.
+            instead::print(&mut Seeded::case(seed(), 1));
+            comb::print(&mut Seeded::case(seed(), 2));
+        }
+        _ => {
+            eprintln!("bench: compare, turns, or tables FILE...");
+            std::process::exit(2);
+        }
     }
-    println!("\nCalls and questions: library / baseline");
-    print(&calls_and_questions(&mut seeded, 1_000), TURNS);
-    for (how, lines) in growing(&mut seeded, 500) {
-        println!("\nHow cost grows {}", how);
-        print(&lines, TURNS);
-    }
-    // Their figures stand in the papers: they do not depend on what was drawn before them.
-    instead::print(&mut Seeded::case(seed(), 1));
-    comb::print(&mut Seeded::case(seed(), 2));
 }

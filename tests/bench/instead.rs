@@ -2,7 +2,7 @@
 
 use crate::lab::{self, Interval};
 use crate::seeded::Seeded;
-use crate::sides::{compare, played, times, Lent};
+use crate::sides::{compare, median, played, times, Lent, Turns};
 use crate::work::*;
 use std::time::Instant;
 
@@ -71,6 +71,10 @@ struct Row {
     bytes: f64,
 }
 
+fn library_of(turns: Turns) -> f64 {
+    median(turns.into_iter().map(|(library, _)| library).collect())
+}
+
 fn rows(seeded: &mut Seeded, attributes: u32, k: u32, changes: u32) -> Vec<Row> {
     let questions = 200;
     let built = Work::new(attributes, k, 50, 2 * changes / k + 64).changes(seeded, changes as usize).finish().is_built();
@@ -78,14 +82,14 @@ fn rows(seeded: &mut Seeded, attributes: u32, k: u32, changes: u32) -> Vec<Row> 
     let work = built.singles(seeded, questions);
     let (mut lent, mut theirs) = compare("questions", &work);
     let used = played(&work, work.built, &mut theirs).map_or(0, |history| history.used as usize);
-    let single = times(&work, &mut lent, &mut theirs, 3).0;
+    let single = library_of(times(&work, &mut lent, &mut theirs, 3));
     // The same questions, put as full ones.
     let mut fulls = Work { script: work.script.clone(), ..work };
     for call in fulls.built..fulls.calls() {
         fulls.script[call * CALL + 4] = FULL;
     }
     let (mut answered, mut theirs) = compare("questions", &fulls);
-    let full = times(&fulls, &mut answered, &mut theirs, 3).0;
+    let full = library_of(times(&fulls, &mut answered, &mut theirs, 3));
     let bytes = used as f64 * fulls.node_size() as f64 / all.len() as f64;
     let mut rows = vec![Row { name: "library".to_string(), single, full, bytes }];
 

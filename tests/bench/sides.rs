@@ -156,38 +156,40 @@ fn nanoseconds<T>(run: impl FnOnce() -> T) -> f64 {
     from.elapsed().as_nanos() as f64
 }
 
-fn median(mut times: Vec<f64>) -> f64 {
-    times.sort_by(f64::total_cmp);
-    times[times.len() / 2]
+pub fn median(mut numbers: Vec<f64>) -> f64 {
+    numbers.sort_by(f64::total_cmp);
+    numbers[numbers.len() / 2]
 }
 
-/// Nanoseconds for each call behind the built ones, of the library and of the baseline, and what the one is of the other: the medians of
-/// several turns. In each turn one comes right behind the other, so that whatever slows the machine for a while slows both.
-pub fn times(work: &Work, ours: &mut Lent, theirs: &mut Lent, turns: usize) -> (f64, f64, f64) {
-    let (mut libraries, mut baselines) = (Vec::new(), Vec::new());
+/// What each turn of both sides took: the library's nanoseconds for a call, and the baseline's.
+pub type Turns = Vec<(f64, f64)>;
+
+/// Nanoseconds for each call behind the built ones, of the library and of the baseline, turn by turn. In each turn one comes right behind
+/// the other, so that whatever slows the machine for a while slows both.
+pub fn times(work: &Work, ours: &mut Lent, theirs: &mut Lent, turns: usize) -> Turns {
+    let timed = (work.calls() - work.built).max(1) as f64;
     // The buffers are as the whole script left them: of a finished history, its nodes.
     let history = played(work, work.built, theirs).expect("compared before");
     let said = ours.said.clone();
+    let mut taken = Vec::new();
     for _ in 0..turns {
-        if history.finished {
-            libraries.push(nanoseconds(|| library_asked(work, &history, ours)));
+        let (library, baseline) = if history.finished {
+            let library = nanoseconds(|| library_asked(work, &history, ours));
             let mut asked = history.clone();
-            baselines.push(nanoseconds(|| carry_out(&mut asked, work, work.built, work.calls(), theirs)));
+            (library, nanoseconds(|| carry_out(&mut asked, work, work.built, work.calls(), theirs)))
         } else {
             // Opening and building are timed alone, and taken off; where there is nothing else, they are what is timed.
+            let alone = if work.calls() > work.built { 1.0 } else { 0.0 };
             let built = nanoseconds(|| library(work, work.built, ours));
-            let whole = nanoseconds(|| library(work, work.calls(), ours));
-            libraries.push(if work.calls() > work.built { whole - built } else { whole });
+            let library = nanoseconds(|| library(work, work.calls(), ours)) - alone * built;
             let built = nanoseconds(|| played(work, work.built, theirs));
-            let whole = nanoseconds(|| played(work, work.calls(), theirs));
-            baselines.push(if work.calls() > work.built { whole - built } else { whole });
-        }
+            (library, nanoseconds(|| played(work, work.calls(), theirs)) - alone * built)
+        };
+        taken.push((library / timed, baseline / timed));
     }
     if ours.said != said {
         eprintln!("the library says something else when it is asked again");
         std::process::exit(1);
     }
-    let timed = (work.calls() - work.built).max(1) as f64;
-    let ratios = libraries.iter().zip(&baselines).map(|(library, baseline)| library / baseline).collect();
-    (median(libraries) / timed, median(baselines) / timed, median(ratios))
+    taken
 }
