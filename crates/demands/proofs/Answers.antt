@@ -14,7 +14,7 @@ use Rattle.record.specs.declared.Refusal.the-variants as R
 use Rattle.record.specs.Refusals.{numberOf, accepted}
 use Rattle.questions.specs.declared.Single.{Single}
 use Rattle.questions.specs.Single.{singleOf}
-use Rattle.questions.specs.Full.{fullRefusal, fullOf, fullWritten}
+use Rattle.full_question.specs.Full.{fullRefusal, fullOf, fullWritten}
 use Rattle.model.specs.Transient as M
 use Rattle.model.specs.Transient.{Interval, history}
 use Rattle.model.specs.Nodes.{∞, Node, upto}

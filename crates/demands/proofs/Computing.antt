@@ -18,7 +18,7 @@ use Rattle.walk.specs.Rules as R
 use Rattle.walk.specs.Walk as QW
 use Rattle.questions.specs.Found as QF
 use Rattle.questions.specs.Single as QS
-use Rattle.questions.specs.Full as QA
+use Rattle.full_question.specs.Full as QA
 use Rattle.demands.specs.Runs.{step, run}
 use Rattle.demands.specs.Examples.{entries, spoken, boundsFrom, nodesOf}
 

@@ -29,7 +29,7 @@ use Rattle.questions.specs.declared.Single.{Single}
 use Rattle.walk.specs.View.{viewOf}
 use Rattle.walk.specs.Walk.{walkOf}
 use Rattle.questions.specs.Single.{refusedSingle, tableEntry, toldEntry, fromTable, singleAnswer, singleRefusal, singleOf}
-use Rattle.questions.specs.Full.{fullRefusal, fullOf}
+use Rattle.full_question.specs.Full.{fullRefusal, fullOf}
 use Rattle.feed.specs.declared.Reading.the-variants as F
 use Rattle.feed.specs.Feed.{payloadAt, longest, tagKnown, lengthAllowed, tagAt, sizeAt, wholeAt, readingAt}
 use Rattle.demands.specs.Runs.{Call, opening, set, remove, increment, add, finish, single, full, State, Answer, says, quark, ifBegun, follows, changed, told, answered as asks, step}

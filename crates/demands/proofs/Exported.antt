@@ -14,7 +14,7 @@ use Rattle.record.specs.declared.Refusal.the-variants as R
 use Rattle.record.specs.Refusals.{numberOf, accepted}
 use Rattle.walk.specs.View.{viewOf}
 use Rattle.questions.specs.Single as one
-use Rattle.questions.specs.Full as all
+use Rattle.full_question.specs.Full as all
 use Rattle.page.specs.Page as P
 use Rattle.page.proofs.Same.{single-same, single-bytes-same, full-same, full-bytes-same}
 use Rattle.model.specs.Transient as M

@@ -16,7 +16,7 @@ use Rattle.calls.specs.Finish.{finishRefusal, finishOf}
 use Rattle.calls.proofs.Kept.{change-says, change-kept, add-says, add-kept, finish-says, finish-kept}
 use Rattle.walk.specs.View.{viewOf}
 use Rattle.questions.specs.Single.{refusedSingle, singleAnswer, singleRefusal, singleOf}
-use Rattle.questions.specs.Full.{fullOf, fullWritten}
+use Rattle.full_question.specs.Full.{fullOf, fullWritten}
 use Rattle.page.specs.Page as P
 use Rattle.demands.specs.Runs.{opening, set, remove, increment, add, finish, single, full, State, Answer, says, quark, ifBegun, follows, changed, told, answered as asks, step}
 use Rattle.demands.specs.Demands.{RefusedKeeps, RefusedUnwritten}

@@ -25,9 +25,9 @@ use Rattle.calls.specs.Add.{addOf}
 use Rattle.calls.specs.Finish.{finishOf}
 use Rattle.walk.specs.declared.View.{View}
 use Rattle.questions.specs.declared.Single.{Single}
-use Rattle.questions.specs.declared.Full.{Full}
+use Rattle.full_question.specs.declared.Full.{Full}
 use Rattle.questions.specs.Single.{singleOf}
-use Rattle.questions.specs.Full.{fullOf, fullWritten}
+use Rattle.full_question.specs.Full.{fullOf, fullWritten}
 use Rattle.page.specs.Page as P
 use Rattle.feed.specs.declared.Reading.{Reading}
 use Rattle.feed.specs.declared.Reading.the-variants as F
@@ -68,7 +68,7 @@ abbrev pub Promised : Shape → Outcome → Left → Type 0
 Promised s o x = Comes (x .refusal) s (x .words) (x .nodes) (x .table) o
 
 -- One line for each public function, with the promise that it is proved to keep: of its answer, and of every byte that it could write. (The functions of `questions`
--- that only `page` and its own files call promise an equation too.)
+-- and `full_question` that only `page` and their own files call promise an equation too.)
 pub record Settled : Type 0 where
   pub opening : (start attributes : ℕ) (shape : Shape) (w nodes table : List ℕ) → Settles (Promised shape (openOn (recordOf shape w) start attributes shape nodes table))
   pub set : (s : Shape) (w : List ℕ) (t : ℕ) (q : Quark) (v : ℤ) (nodes table : List ℕ) → Settles (Promised s (changeOf (recordOf s w) t q (Set v) nodes table))

@@ -21,7 +21,7 @@ use Rattle.walk.specs.View.{viewOf, asked}
 use Rattle.walk.specs.Rules.{kept}
 use Rattle.walk.specs.Walk.{walkOf}
 use Rattle.questions.specs.Single.{fromTable, told, entryFine}
-use Rattle.questions.specs.Full.{alone, everyQuark}
+use Rattle.full_question.specs.Full.{alone, everyQuark}
 use Rattle.feed.specs.Feed.{longest, tagKnown, lengthAllowed, tagAt, sizeAt}
 use Rattle.demands.specs.Runs.{Call, opening, set, remove, increment, add, finish, single, full, State, quark}
 

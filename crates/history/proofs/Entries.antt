@@ -13,9 +13,9 @@ use Rattle.record.specs.declared.Refusal.the-variants as R
 use Rattle.record.specs.Sound.{sound, longEnough}
 use Rattle.feed.specs.declared.Record.{Record}
 use Rattle.feed.specs.declared.Record.the-variants.{Open, Set, Remove, Increment, Add, Finish, Single, Full}
-use Rattle.questions.specs.declared.Full as F
-use Rattle.questions.specs.Full.{fullOf, fullRefusal}
-use Rattle.questions.proofs.Heads.{full-room}
+use Rattle.full_question.specs.declared.Full as F
+use Rattle.full_question.specs.Full.{fullOf, fullRefusal}
+use Rattle.full_question.proofs.Heads.{full-room}
 use Rattle.history.specs.declared.step.Shown.{Shown}
 use Rattle.history.specs.declared.step.Shown.the-variants.{Said, All}
 use Rattle.history.specs.declared.step.Done as Coded

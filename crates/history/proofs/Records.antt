@@ -26,9 +26,9 @@ use Rattle.calls.specs.Add.{addOf}
 use Rattle.calls.specs.Finish.{finishOf}
 use Rattle.calls.proofs.Refused.{on-false}
 use Rattle.questions.specs.declared.Single as Q
-use Rattle.questions.specs.declared.Full as F
+use Rattle.full_question.specs.declared.Full as F
 use Rattle.questions.specs.Single.{singleOf}
-use Rattle.questions.specs.Full.{fullOf, fullWritten}
+use Rattle.full_question.specs.Full.{fullOf, fullWritten}
 use Rattle.history.specs.declared.step.State as Code
 use Rattle.history.specs.declared.step.Shown.the-variants.{Said, One, All}
 use Rattle.history.specs.declared.step.Done as Coded

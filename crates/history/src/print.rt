@@ -1,9 +1,9 @@
 // What a record is answered, as text: "Each line: record number from 0, answer number." Plain decimal, one space between, a newline at the end.
 use crate::step::Done;
 use crate::step::Shown;
+use full_question::Full;
 use layout::Entry;
 use libc::STDOUT_FILENO;
-use questions::Full;
 use questions::Single;
 use record::Refusal;
 ghost use mathlib.Core.Path.{_≡_};

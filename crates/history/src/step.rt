@@ -1,7 +1,7 @@
 // One record of a feed carried out on the history that is open.
 use feed::Record;
+use full_question::Full;
 use layout::Shape;
-use questions::Full;
 use questions::Single;
 use record::Refusal;
 ghost use mathlib.Core.Path.{_≡_};
@@ -128,7 +128,7 @@ fn call(
         },
         Record::Full { t } => Done {
             state: s,
-            shown: Shown::All(questions::all::full(shape, h, t, nodes, table, answer)),
+            shown: Shown::All(full_question::all::full(shape, h, t, nodes, table, answer)),
         },
     }
 }

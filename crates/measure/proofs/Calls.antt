@@ -24,9 +24,9 @@ use Rattle.calls.specs.Change.{changeOf}
 use Rattle.calls.specs.Add.{addOf}
 use Rattle.calls.specs.Finish.{finishOf}
 use Rattle.questions.specs.declared.Single.{Single}
-use Rattle.questions.specs.declared.Full.{Full}
+use Rattle.full_question.specs.declared.Full.{Full}
 use Rattle.questions.specs.Single.{singleOf}
-use Rattle.questions.specs.Full.{fullOf, fullWritten}
+use Rattle.full_question.specs.Full.{fullOf, fullWritten}
 use Rattle.measure.specs.Measure.{slot, callOf, State, state, asksOne, asksAll, calls, stepOf}
 
 -- ---- what is said

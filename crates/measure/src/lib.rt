@@ -71,7 +71,7 @@ fn step(
         return;
     }
     if e.kind == 7 {
-        let f = questions::all::full(shape, h, e.start, nodes, table, answer);
+        let f = full_question::all::full(shape, h, e.start, nodes, table, answer);
         let r = f.refusal;
         say(said, at, r, f.nodes, e);
         return;

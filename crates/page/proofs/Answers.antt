@@ -16,11 +16,11 @@ use Rattle.record.specs.declared.Refusal.the-variants.{Nothing, Short, Damaged,
 use Rattle.record.specs.Refusals.{numberOf, accepted}
 use Rattle.walk.specs.declared.View.{View}
 use Rattle.questions.specs.declared.Single.{Single}
-use Rattle.questions.specs.declared.Full.{Full}
+use Rattle.full_question.specs.declared.Full.{Full}
 use Rattle.walk.specs.View.{viewSound, longFor, asked}
 use Rattle.walk.specs.Walk.{walkOf}
 use Rattle.questions.specs.Single.{refusedSingle, told, toldEntry, walkedSingle}
-use Rattle.questions.specs.Full.{fullEntries, walkedRefusal, walkedFull, walkedWritten}
+use Rattle.full_question.specs.Full.{fullEntries, walkedRefusal, walkedFull, walkedWritten}
 use Rattle.page.specs.Page.{finishedView, headRefusal, singleRefusal, singleBytes, singleWritten, fullRefusal, fullBytes, fullWritten}
 use Rattle.page.proofs.Heads.{Admitted, zero-nothing, some-refused, nothing-admitted}
 

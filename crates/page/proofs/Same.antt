@@ -22,9 +22,9 @@ use Rattle.walk.specs.View.{viewOf, viewSound, longFor}
 use Rattle.walk.specs.Walk.{walkOf}
 use Rattle.questions.specs.Single.{toldEntry, fromTable, entryFine, singleAnswer, singleOf}
 use Rattle.questions.specs.Single as one
-use Rattle.questions.specs.Full.{alone, fullEntry, everyQuark, fullEntries, fullOf}
-use Rattle.questions.specs.Full as all
-use Rattle.questions.proofs.Fulls.{every-same, fine-finished}
+use Rattle.full_question.specs.Full.{alone, fullEntry, everyQuark, fullEntries, fullOf}
+use Rattle.full_question.specs.Full as all
+use Rattle.full_question.proofs.Fulls.{every-same, fine-finished}
 use Rattle.page.specs.Page.{finishedView, singleRefusal, singleBytes, fullRefusal, fullBytes}
 
 -- ---- once finished, the table is not read

@@ -15,7 +15,7 @@ use Rattle.walk.specs.View.{viewSound, longFor, asked}
 use Rattle.walk.specs.Rules.{kept}
 use Rattle.walk.specs.Walk.{walkOf}
 use Rattle.questions.specs.Single.{told, toldEntry, entryFine}
-use Rattle.questions.specs.Full.{alone, everyQuark, fullEntries}
+use Rattle.full_question.specs.Full.{alone, everyQuark, fullEntries}
 
 -- "both queries on a finished history are also exported on plain numbers": these as a view
 unfoldable pub finishedView : ℕ → ℕ → ℕ → ℕ → ℕ → ℕ → ℕ → ℕ → ℕ → View

@@ -99,7 +99,7 @@ fn full_on(v: View, t: u64, nodes: &[u8], answer: &mut [u8]) -> u32
     if a != 0 {
         return a;
     }
-    let s = questions::all::walked(v, t, nodes, &[], answer, 8);
+    let s = full_question::all::walked(v, t, nodes, &[], answer, 8);
     let x = s.refusal;
     let b = record::number(x);
     if b != 0 {

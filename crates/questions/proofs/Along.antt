@@ -17,12 +17,10 @@ use Rattle.walk.specs.Rules.{kept}
 use Rattle.walk.specs.Walk.{placeOf, rootOf, ended, allSound, inside, enter, step, walkOf}
 use Rattle.walk.specs.Way.{past, descentOf, way, wayOf, nodeSound, soundAlong, Stands}
 use Rattle.questions.specs.Found.{look, lookIn, lookAt, found, foundOf}
-use Rattle.questions.specs.Table.{noteAll, noteIn, noteAt, foundFrom, foundAll}
-use Rattle.questions.specs.Along.{lookAlong, noteAlong}
+use Rattle.questions.specs.Along.{lookAlong}
 use Rattle.walk.proofs.Broken.{and-left, and-right}
 use Rattle.walk.proofs.Descents.{well, walk-descends, walk-unsound, walk-broken, way-entered, way-some, way-few, way-stands}
 use Rattle.questions.proofs.Finds.{found-stop}
-use Rattle.questions.proofs.Tables.{from-stop}
 
 -- ---- one node
 
@@ -43,14 +41,6 @@ module _ (l : List ℕ) (v : View) (t level : ℕ) (w : Walk) where
   look-broken : (q s : ℕ) → well l v level w ≡ false → lookAt l v q t level w s ≡ s
   unfolding lookAt lookIn
   look-broken q s k = rw k
-
-  note-kept : (xs : List ℕ) → well l v level w ≡ true → noteAt l v t level w xs ≡ noteAll l t (placeOf v (w .place) + entryAt (v .shape) 0) (readHeader l (placeOf v (w .place)) .intervals) xs
-  unfolding noteAt noteIn
-  note-kept xs k = rw k
-
-  note-broken : (xs : List ℕ) → well l v level w ≡ false → noteAt l v t level w xs ≡ xs
-  unfolding noteAt noteIn
-  note-broken xs k = rw k
 
 -- ---- all of them
 
@@ -83,34 +73,6 @@ module _ (l : List ℕ) (v : View) (t : ℕ) where
   pub found-along : (q : ℕ) → soundAlong l v (wayOf l v t) ≡ true → foundOf l v q t ≡ lookAlong l v q t (wayOf l v t) 0
   unfolding foundOf wayOf
   found-along q e = found-way q (v .level + 1) (rootOf v) 0 e
-
-  noted-way : (n : ℕ) (w : Walk) (xs : List ℕ) → soundAlong l v (way l v t n w) ≡ true → foundFrom l v t n w xs ≡ noteAlong l v t (way l v t n w) xs
-  unfolding foundFrom way soundAlong noteAlong
-  noted-way zero w xs e = refl
-  noted-way (suc n) w xs e = go (w .go) (well l v n w) refl (noted-way n (past l v t n w) (noteAll l t (p + entryAt (v .shape) 0) (readHeader l p .intervals) xs)) e
-    where
-      p : ℕ
-      p = placeOf v (w .place)
-
-      on : List ℕ
-      on = way l v t n (past l v t n w)
-
-      ys : List ℕ
-      ys = noteAll l t (p + entryAt (v .shape) 0) (readHeader l p .intervals) xs
-
-      go : (a b : Bool) → well l v n w ≡ b → (soundAlong l v on ≡ true → foundFrom l v t n (past l v t n w) ys ≡ noteAlong l v t on ys)
-          → soundAlong l v (cond (a && b) (p ∷ on) []) ≡ true
-          → cond a (foundFrom l v t n (step l v t n w) (noteAt l v t n w xs)) xs ≡ noteAlong l v t (cond (a && b) (p ∷ on) []) xs
-      go true true k f e =
-          ap (λ (x : Walk). foundFrom l v t n x (noteAt l v t n w xs)) (step-past l v t n w k (and-left (nodeSound l v p) (soundAlong l v on) e))
-          ∙ ap (λ (x : List ℕ). foundFrom l v t n (past l v t n w) x) (note-kept l v t n w xs k)
-          ∙ f (and-right (nodeSound l v p) (soundAlong l v on) e)
-      go true false k f e = sym (from-stop l v t n (step l v t n w) (noteAt l v t n w xs) (step-stops l v t n w k)) ∙ note-broken l v t n w xs k
-      go false b k f e = refl
-
-  pub noted-along : (xs : List ℕ) → soundAlong l v (wayOf l v t) ≡ true → foundAll l v t xs ≡ noteAlong l v t (wayOf l v t) xs
-  unfolding foundAll wayOf
-  noted-along xs e = noted-way (v .level + 1) (rootOf v) xs e
 
 -- ---- the header of a node on the way
 
@@ -151,16 +113,6 @@ module _ (l : List ℕ) (v : View) (t : ℕ) (path : List ℕ) (n i p : ℕ) (h 
       in
       ap (λ (x : List ℕ). lookAlong l v q t x s) here ∙ ap (λ (x : ℕ). lookAlong l v q t (slice (i + 1) n path) x) e
 
-  pub note-on : (xs ys : List ℕ) → ys ≡ noteAll l t (p + first) (h .intervals) xs → noteAlong l v t (slice i n path) xs ≡ noteAlong l v t (slice (i + 1) n path) ys
-  unfolding noteAlong
-  note-on xs ys is =
-      let e : noteAll l t (p + entryAt (v .shape) 0) (readHeader l p .intervals) xs ≡ ys =
-      ap (λ (x : Header). noteAll l t (p + entryAt (v .shape) 0) (x .intervals) xs) (sym reads)
-      ∙ ap (λ (x : ℕ). noteAll l t (p + x) (h .intervals) xs) (sym from)
-      ∙ sym is
-      in
-      ap (λ (x : List ℕ). noteAlong l v t x xs) here ∙ ap (λ (x : List ℕ). noteAlong l v t (slice (i + 1) n path) x) e
-
 module _ (l : List ℕ) (v : View) (path : List ℕ) (n i : ℕ) (le : i ≤ n) (ge : n ≤ i) where
   none : slice i n path ≡ []
   none = let e : i ≡ n = omega arith in ap (λ (k : ℕ). slice k n path) e ∙ slice-empty n path
@@ -172,10 +124,6 @@ module _ (l : List ℕ) (v : View) (path : List ℕ) (n i : ℕ) (le : i ≤ n) 
   pub look-ends : (q t s : ℕ) → lookAlong l v q t (slice i n path) s ≡ s
   unfolding lookAlong
   look-ends q t s = ap (λ (x : List ℕ). lookAlong l v q t x s) none
-
-  pub note-ends : (t : ℕ) (xs : List ℕ) → noteAlong l v t (slice i n path) xs ≡ xs
-  unfolding noteAlong
-  note-ends t xs = ap (λ (x : List ℕ). noteAlong l v t x xs) none
 
 -- ---- the walk, of n nodes on the way that a path notes, 0 where a rule other than R6 breaks it
 
@@ -224,6 +172,3 @@ module _ (l : List ℕ) (v : View) (t : ℕ) (path : List ℕ) (n : ℕ) (is : n
 
         pub along-finds : (q s : ℕ) → (b ≡ true → s ≡ lookAlong l v q t (take n path) 0) → s ≡ foundOf l v q t
         along-finds q s finds = finds (not-false b m) ∙ ap (λ (xs : List ℕ). lookAlong l v q t xs 0) same ∙ sym (found-along l v t q all-sound)
-
-        pub along-notes : (xs ys : List ℕ) → (b ≡ true → ys ≡ noteAlong l v t (take n path) xs) → ys ≡ foundAll l v t xs
-        along-notes xs ys finds = finds (not-false b m) ∙ ap (λ (x : List ℕ). noteAlong l v t x xs) same ∙ sym (noted-along l v t xs all-sound)

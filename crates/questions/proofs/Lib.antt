@@ -1,9 +1,4 @@
 pub mod Finds
 pub mod Hits
 pub mod Singles
-pub mod After
-pub mod Tables
 pub mod Along
-pub mod Fulls
-pub mod Heads
-pub mod Once

@@ -1,5 +1,3 @@
 pub mod Found
 pub mod Single
-pub mod Full
-pub mod Table
 pub mod Along

@@ -20,7 +20,7 @@ use Rattle.walk.specs.View.{viewOf}
 use Rattle.walk.specs.Rules.{kept}
 use Rattle.walk.specs.Walk.{walkOf}
 use Rattle.questions.specs.Single.{entryFine}
-use Rattle.questions.specs.Full.{alone, fullEntry, everyQuark, fullEntries, refusedFull, fullRefusal, fullOf, fullWritten}
+use Rattle.full_question.specs.Full.{alone, fullEntry, everyQuark, fullEntries, refusedFull, fullRefusal, fullOf, fullWritten}
 use Rattle.model.specs.Transient.{Interval}
 use Rattle.model.specs.Questions.{each, full, walk}
 use Rattle.model.specs.Refusals.{asked, refuseFull}

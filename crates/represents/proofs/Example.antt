@@ -14,7 +14,7 @@ use Rattle.record.specs.Refusals.{numberOf}
 use Rattle.record.specs.Sound as S
 use Rattle.transient.specs.Transient as T
 use Rattle.questions.specs.Single.{singleOf}
-use Rattle.questions.specs.Full.{fullOf}
+use Rattle.full_question.specs.Full.{fullOf}
 use Rattle.model.specs.State.{null}
 use Rattle.model.specs.Transient as M
 use Rattle.model.specs.Transient.{change, set}

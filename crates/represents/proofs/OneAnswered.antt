@@ -18,7 +18,7 @@ use Rattle.walk.specs.View as Q
 use Rattle.walk.specs.View.{viewOf}
 use Rattle.walk.specs.Walk.{walkOf}
 use Rattle.questions.specs.Single.{refusedSingle, told, fromTable, entryFine, singleAnswer, singleRefusal, singleOf, tableEntry, toldEntry}
-use Rattle.questions.specs.Full.{fullEntry}
+use Rattle.full_question.specs.Full.{fullEntry}
 use Rattle.model.specs.Transient.{Interval}
 use Rattle.model.specs.Nodes.{intervals}
 use Rattle.model.specs.Questions.{only, covers, ongoing, Answer, answer, single, walk}

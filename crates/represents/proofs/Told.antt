@@ -18,7 +18,7 @@ use Rattle.walk.specs.View.{viewOf}
 use Rattle.walk.specs.Walk.{walkOf}
 use Rattle.questions.specs.Found.{many, foundOf, shown}
 use Rattle.questions.specs.Single.{told, toldEntry, fromTable, tableEntry, entryFine}
-use Rattle.questions.specs.Full.{alone, fullEntry}
+use Rattle.full_question.specs.Full.{alone, fullEntry}
 use Rattle.model.specs.Transient as M
 use Rattle.model.specs.Transient.{Interval}
 use Rattle.model.specs.Build.{Head, childless, also}

@@ -12,7 +12,7 @@ use Rattle.record.specs.declared.Refusal.the-variants.{Nothing}
 use Rattle.record.specs.Refusals.{numberOf}
 use Rattle.walk.specs.View.{viewOf}
 use Rattle.questions.specs.Single.{singleAnswer, viewSingle}
-use Rattle.questions.specs.Full.{fullEntries, walkedRefusal, walkedFull, walkedWritten}
+use Rattle.full_question.specs.Full.{fullEntries, walkedRefusal, walkedFull, walkedWritten}
 use Rattle.model.specs.Questions.{full}
 use Rattle.model.specs.Refusals.{refuseSingle}
 use Rattle.model.specs.Theorems.{Run, Allowed, left, Calls64}

@@ -7,9 +7,9 @@ use lib.Seq.{sets}
 use Rattle.layout.specs.Layout.{entryBytes, spread}
 use Rattle.record.specs.Refusals.{numberOf}
 use Rattle.questions.specs.declared.Single.{Single}
-use Rattle.questions.specs.declared.Full.{Full}
+use Rattle.full_question.specs.declared.Full.{Full}
 use Rattle.questions.specs.Single.{refusedSingle}
-use Rattle.questions.specs.Full.{refusedFull}
+use Rattle.full_question.specs.Full.{refusedFull}
 use Rattle.model.specs.Questions.{single, full}
 use Rattle.model.specs.Refusals.{refuseSingle, refuseFull}
 use Rattle.model.specs.Theorems.{Run, left}

@@ -1,0 +1,255 @@
+// The full question: all attributes' states at t, in one walk.
+use crate::Full;
+use layout::Entry;
+use layout::Header;
+use layout::Quark;
+use layout::Shape;
+use record::Refusal;
+use walk::View;
+use walk::known;
+use walk::rules;
+use walk::steps;
+ghost use mathlib.Core.Path.{_≡_};
+ghost use mathlib.Core.Bool.{true, false, not, _&&_};
+ghost use Prim.Native.Nat.{ℕ, _+_, _*_, _/_, _≤_, _<_};
+ghost use lib.Dec.{eqb};
+ghost use lib.ListN.{length, getD, take};
+ghost use lib.Seq.{sets};
+ghost use Rattle.layout.specs.Layout.{entrySize};
+ghost use Rattle.record.specs.Record.{recordOf};
+ghost use Rattle.walk.specs.View.{Roomy};
+ghost use Rattle.walk.specs.Since.{reaches};
+ghost use Rattle.walk.specs.Walk.{allSound};
+ghost use Rattle.walk.specs.Way.{soundAlong, Stands};
+ghost use Rattle.questions.specs.Found.{shown};
+ghost use Rattle.questions.specs.Single.{entryFine};
+ghost use Rattle.full_question.specs.Along.{noteAlong};
+ghost use Rattle.full_question.specs.Full.{everyQuark, refusedFull, walkedFull, walkedWritten, fullOf, fullWritten};
+ghost use Rattle.full_question.specs.Table.{noteIf, noteAll, once, begun, allBegun, entryFor, entriesFrom, Readable};
+
+// What was found for each quark: 0 nothing, p + 1 the one entry at byte p, ONGOING its ongoing state. At a second one the question ends.
+const ONGOING: u32 = 0xffff_fffe;
+
+fn refused(r: Refusal) -> Full
+    ensures { λ r₁. ⌜ r₁ ≡ refusedFull r ⌝ }
+{
+    Full {
+        refusal: r,
+        nodes: 0,
+    }
+}
+
+// An entry at byte p that covers t is noted for its quark. Tells false where that quark has one already: R7 is broken, whatever else is found.
+fn note(found: &mut [u32], t: u64, p: usize, e: Entry) -> bool
+    requires { ⌜ (p + entrySize ≤ 4294967296) × (e .quark .0 < length (now found)) ⌝ }
+    ensures { λ r. ⌜ (r ≡ not (reaches t e && not (eqb (getD (now (found .entry)) (e .quark .0) 0) 0))) × (r ≡ true → now (found .exit) ≡ noteIf (reaches t e) p e (now (found .entry))) ⌝ }
+{
+    if rules::reaches(t, e) {
+        let q = e.quark.0 as usize;
+        if found[q] != 0 {
+            return false;
+        }
+        found[q] = (p + 1) as u32;
+    }
+    true
+}
+
+// Each of a node's entries is read once, for R6 and for its quark, up to the first that does not fit or that is a second one for its quark; the kinds and the nulls' values are tested at the end, for all of them at once. What was noted matters only where none breaks R6 or R7.
+fn look(
+    nodes: &[u8],
+    attributes: u32,
+    h: Header,
+    t: u64,
+    at: usize,
+    n: u32,
+    found: &mut [u32],
+) -> bool
+    requires { ⌜ (at + entrySize * n ≤ length (now nodes)) × (at + entrySize * n ≤ 4294967296) × (attributes ≤ length (now found)) × (h .start ≤ h .end) × (once attributes (now found) ≡ true) ⌝ }
+    ensures { λ r. ⌜ (r ≡ (allSound (now (nodes .entry)) attributes h at n true && once attributes (noteAll (now (nodes .entry)) t at n (now (found .entry))))) × (r ≡ true → now (found .exit) ≡ noteAll (now (nodes .entry)) t at n (now (found .entry))) ⌝ }
+{
+    let mut i: u32 = 0;
+    let mut p = at;
+    let mut nulls: u64 = 0;
+    let mut kinds: u64 = 0;
+    while i < n {
+        let e = layout::read_entry(nodes, p);
+        if !rules::lies(attributes, h.start, h.end, e) {
+            return false;
+        }
+        kinds = rules::kinds(kinds, e);
+        nulls = rules::nulls(nulls, e);
+        if !note(found, t, p, e) {
+            return false;
+        }
+        p += layout::ENTRY;
+        i += 1;
+    }
+    (nulls == 0) & (kinds <= 1)
+}
+
+// The nodes along the way, R6 of all their entries, each noted for its quark, up to a second one.
+fn along(nodes: &[u8], v: View, t: u64, path: &[u64], n: u32, found: &mut [u32]) -> bool
+    requires { ⌜ (n ≤ length (now path)) × ((i : ℕ) → i < n → Stands v (now nodes) (getD (now path) i 0)) × (v .attributes ≤ length (now found)) × (once (v .attributes) (now found) ≡ true) ⌝ }
+    ensures { λ r. ⌜ (r ≡ (soundAlong (now (nodes .entry)) v (take n (now (path .entry))) && once (v .attributes) (noteAlong (now (nodes .entry)) v t (take n (now (path .entry))) (now (found .entry))))) × (r ≡ true → now (found .exit) ≡ noteAlong (now (nodes .entry)) v t (take n (now (path .entry))) (now (found .entry))) ⌝ }
+{
+    let mut k: u32 = 0;
+    while k < n {
+        let i = k as usize;
+        let at = path[i] as usize;
+        let h = layout::read_header(nodes, at);
+        let first = at + layout::entry_at(v.shape, 0);
+        if !look(nodes, v.attributes, h, t, first, h.intervals as u32, found) {
+            return false;
+        }
+        k += 1;
+    }
+    true
+}
+
+// An ongoing state that starts at or below t is noted.
+fn begin(found: &mut [u32], q: u32, start: u64, t: u64)
+    requires { ⌜ q < length (now found) ⌝ }
+    ensures { λ _. ⌜ now (found .exit) ≡ begun q start t (now (found .entry)) ⌝ }
+{
+    if start <= t {
+        let i = q as usize;
+        found[i] = ONGOING;
+    }
+}
+
+// The ongoing entries are tested, and those that start at or below t noted; once finished none is read.
+fn note_ongoing(table: &[u8], v: View, t: u64, found: &mut [u32]) -> bool
+    requires { ⌜ (v .attributes ≤ length (now found)) × (v .finished ≡ false → v .attributes ≤ length (now table) / entrySize) ⌝ }
+    ensures { λ r. ⌜ (r ≡ everyQuark (λ q. entryFine v q (now (table .entry))) (v .attributes)) × (r ≡ true → now (found .exit) ≡ allBegun v t (now (table .entry)) (now (found .entry))) ⌝ }
+{
+    if v.finished {
+        return true;
+    }
+    let mut q: u32 = 0;
+    while q < v.attributes {
+        let o = transient::read_ongoing(table, Quark(q));
+        if !transient::ongoing_sound(o, v.start, v.latest) {
+            return false;
+        }
+        begin(found, q, o.start, t);
+        q += 1;
+    }
+    true
+}
+
+// R7 of the first n quarks, for none of which more than one was found. It goes on past a gap: without a way out of the loop the compiler tests several numbers at once.
+fn all_one(found: &[u32], n: u32) -> bool
+    requires { ⌜ (n ≤ length (now found)) × (once n (now found) ≡ true) ⌝ }
+    ensures { λ r. ⌜ r ≡ everyQuark (λ q. shown (getD (now (found .entry)) q 0)) n ⌝ }
+{
+    let mut i: u32 = 0;
+    let mut all = true;
+    while i < n {
+        let q = i as usize;
+        all = all & (found[q] != 0);
+        i += 1;
+    }
+    all
+}
+
+// What answers for a quark: its ongoing state, or the entry that was found.
+fn entry_for(nodes: &[u8], table: &[u8], q: u32, s: u32) -> Entry
+    requires { ⌜ Readable (now nodes) (now table) q s ⌝ }
+    ensures { λ r. ⌜ r ≡ entryFor (now (nodes .entry)) (now (table .entry)) q s ⌝ }
+{
+    if s == ONGOING {
+        let o = transient::read_ongoing(table, Quark(q));
+        return transient::ongoing_entry(Quark(q), o, 0xffff_ffff_ffff_ffff);
+    }
+    layout::read_entry(nodes, (s - 1) as usize)
+}
+
+fn write_entries(nodes: &[u8], table: &[u8], found: &[u32], answer: &mut [u8], at: usize, n: u32)
+    requires { ⌜ (n ≤ length (now found)) × (at + entrySize * n ≤ length (now answer)) × ((q : ℕ) → q < n → Readable (now nodes) (now table) q (getD (now found) q 0)) ⌝ }
+    ensures { λ _. ⌜ now (answer .exit) ≡ sets (now (answer .entry)) at (entriesFrom (now (nodes .entry)) (now (table .entry)) (now (found .entry)) 0 n) ⌝ }
+{
+    let mut i: u32 = 0;
+    let mut p = at;
+    while i < n {
+        let q = i as usize;
+        let e = entry_for(nodes, table, i, found[q]);
+        layout::put_entry(answer, p, e);
+        p += layout::ENTRY;
+        i += 1;
+    }
+}
+
+// The ongoing entries, one walk for all attributes, R7; then, and only then, the entries are written, from index at of the answer on. Found is lent with nothing found yet.
+fn walked_in(
+    v: View,
+    t: u64,
+    nodes: &[u8],
+    table: &[u8],
+    answer: &mut [u8],
+    at: usize,
+    found: &mut [u32],
+) -> Full
+    requires { ⌜ Roomy v (now nodes) × (v .finished ≡ false → v .attributes ≤ length (now table) / entrySize) × (at + entrySize * v .attributes ≤ length (now answer)) × (v .attributes ≤ length (now found)) × ((q : ℕ) → q < v .attributes → getD (now found) q 0 ≡ 0) ⌝ }
+    ensures { λ r. ⌜ (r ≡ walkedFull v t (now (nodes .entry)) (now (table .entry))) × (now (answer .exit) ≡ walkedWritten v t (now (nodes .entry)) (now (table .entry)) at (now (answer .entry))) ⌝ }
+{
+    if !note_ongoing(table, v, t, found) {
+        return refused(Refusal::Damaged);
+    }
+    let mut path = [0u64; 16];
+    let n = steps::way(nodes, v, t, &mut path);
+    if n == 0 {
+        return refused(Refusal::Damaged);
+    }
+    if !along(nodes, v, t, &path, n, found) {
+        return refused(Refusal::Damaged);
+    }
+    if !all_one(found, v.attributes) {
+        return refused(Refusal::Damaged);
+    }
+    write_entries(nodes, table, found, answer, at, v.attributes);
+    Full {
+        refusal: Refusal::Nothing,
+        nodes: n,
+    }
+}
+
+// What was found lies in an array that is not much longer than the attributes are many: clearing all 4096 numbers would cost a small history more than the walk.
+pub fn walked(v: View, t: u64, nodes: &[u8], table: &[u8], answer: &mut [u8], at: usize) -> Full
+    requires { ⌜ Roomy v (now nodes) × (v .finished ≡ false → v .attributes ≤ length (now table) / entrySize) × (at + entrySize * v .attributes ≤ length (now answer)) ⌝ }
+    ensures { λ r. ⌜ (r ≡ walkedFull v t (now (nodes .entry)) (now (table .entry))) × (now (answer .exit) ≡ walkedWritten v t (now (nodes .entry)) (now (table .entry)) at (now (answer .entry))) ⌝ }
+{
+    if v.attributes <= 64 {
+        let mut few = [0u32; 64];
+        return walked_in(v, t, nodes, table, answer, at, &mut few);
+    }
+    if v.attributes <= 512 {
+        let mut some = [0u32; 512];
+        return walked_in(v, t, nodes, table, answer, at, &mut some);
+    }
+    let mut found = [0u32; 4096];
+    walked_in(v, t, nodes, table, answer, at, &mut found)
+}
+
+pub fn full(
+    shape: Shape,
+    h: &[u64; 87],
+    t: u64,
+    nodes: &[u8],
+    table: &[u8],
+    answer: &mut [u8],
+) -> Full
+    ensures { λ r. ⌜ (r ≡ fullOf (recordOf shape (now (h .entry))) t (now (nodes .entry)) (now (table .entry)) (length (now (answer .entry)))) × (now (answer .exit) ≡ fullWritten (recordOf shape (now (h .entry))) t (now (nodes .entry)) (now (table .entry)) (now (answer .entry))) ⌝ }
+{
+    if !record::sound::sound(shape, h) {
+        return refused(Refusal::Damaged);
+    }
+    let v = known::view_of(shape, h);
+    let long = known::long_for(v, nodes.len(), table.len());
+    if !long | (answer.len() / layout::ENTRY < v.attributes as usize) {
+        return refused(Refusal::Short);
+    }
+    if !known::asked(v, t) {
+        return refused(Refusal::Outside);
+    }
+    walked(v, t, nodes, table, answer, 0)
+}
