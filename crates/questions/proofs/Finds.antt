@@ -22,6 +22,10 @@ use Rattle.walk.proofs.Walks.{step-keeps, root-inside}
 
 -- ---- one entry
 
+pub more-first : (s p : ℕ) → s ≡ 0 → p + 1 ≡ more s p
+unfolding more
+more-first s p e = rw (eq-eqb s 0 e)
+
 pub more-many : (s p : ℕ) → (s ≡ 0 → ⊥) → many ≡ more s p
 unfolding more
 more-many s p e = rw (ne-eqb s 0 e)
@@ -31,9 +35,14 @@ module _ (q t p : ℕ) (e : Entry) (s r : ℕ) where
   unfolding noted
   noted-other n g = rw (ne-eqb (e .quark .0) q n) g
 
-  pub noted-same : e .quark .0 ≡ q → r ≡ cond (covers t e) (more s p) s → r ≡ noted q t p e s
-  unfolding noted
-  noted-same same g = rw (eq-eqb (e .quark .0) q same) g
+  module _ (same : e .quark .0 ≡ q) (b : Bool) (is : b ≡ covers t e) where
+    pub noted-yes : (m : ℕ) → m ≡ more s p → b ≡ true → r ≡ m → r ≡ noted q t p e s
+    unfolding noted
+    noted-yes m f y g = rw (eq-eqb (e .quark .0) q same, ← is, y) (g ∙ f)
+
+    pub noted-no : b ≡ false → r ≡ s → r ≡ noted q t p e s
+    unfolding noted
+    noted-no n g = rw (eq-eqb (e .quark .0) q same, ← is, n) g
 
 -- ---- a node's entries
 
@@ -49,12 +58,26 @@ module _ (l : List ℕ) (q t p n i s : ℕ) where
   unfolding look
   look-done le = let z : n - i ≡ 0 = omega arith in ap (λ (k : ℕ). look l q t p k s) z
 
--- ---- a walk that has ended
+-- ---- the walk
 
-pub found-stop : (l : List ℕ) (v : View) (q t n : ℕ) (w : Walk) (s : ℕ) → w .go ≡ false → s ≡ found l v q t n w s
-unfolding found
-found-stop l v q t zero w s e = refl
-found-stop l v q t (suc n) w s e = sym (ap (λ (b : Bool). cond b (found l v q t n (step l v t n w) (lookAt l v q t n w s)) s) e)
+-- the node at which it stands, its header h at byte p
+pub look-node : (l : List ℕ) (v : View) (q t level : ℕ) (w : Walk) (s p : ℕ) (h : Header) (first : ℕ) → p ≡ placeOf v (w .place) → h ≡ readHeader l p → kept (broken v w level h) ≡ true → first ≡ entryAt (v .shape) 0
+    → lookAt l v q t level w s ≡ look l q t (p + first) (h .intervals) s
+unfolding lookAt lookIn
+look-node l v q t level w s p h first at reads good from = rw (← at, ← reads, good, ← from) (ap (λ (x : Header). look l q t (p + first) (x .intervals) s) (sym reads))
+
+module _ (l : List ℕ) (v : View) (q t : ℕ) where
+  pub found-stop : (n : ℕ) (w : Walk) (s : ℕ) → w .go ≡ false → s ≡ found l v q t n w s
+  unfolding found
+  found-stop zero w s e = refl
+  found-stop (suc n) w s e = sym (ap (λ (b : Bool). cond b (found l v q t n (step l v t n w) (lookAt l v q t n w s)) s) e)
+
+  pub found-turn : (n : ℕ) (w : Walk) (s : ℕ) → 0 < n → w .go ≡ true → found l v q t n w s ≡ found l v q t (n - 1) (step l v t (n - 1) w) (lookAt l v q t (n - 1) w s)
+  unfolding found
+  found-turn n w s some going =
+      let e : n ≡ suc (n - 1) = omega arith in
+      ap (λ (k : ℕ). found l v q t k w s) e
+      ∙ ap (λ (b : Bool). cond b (found l v q t (n - 1) (step l v t (n - 1) w) (lookAt l v q t (n - 1) w s)) s) going
 
 -- ---- R7
 

@@ -1,4 +1,3 @@
 pub mod Finds
-pub mod Hits
+pub mod Walking
 pub mod Singles
-pub mod Along

@@ -1,3 +1,2 @@
 pub mod Found
 pub mod Single
-pub mod Along

@@ -10,43 +10,36 @@ use walk::known;
 use walk::rules;
 use walk::steps;
 ghost use mathlib.Core.Path.{_≡_};
-ghost use Prim.Native.Nat.{ℕ, _+_, _*_, _/_, _≤_, _<_};
+ghost use Prim.Native.Nat.{_+_, _*_, _/_, _≤_, _<_};
 ghost use mathlib.Core.Bool.{true, false};
-ghost use lib.ListN.{length, getD, take};
+ghost use lib.ListN.{length};
 ghost use Rattle.layout.specs.Layout.{entrySize};
 ghost use Rattle.record.specs.Record.{recordOf};
 ghost use Rattle.record.specs.Sound.{sound};
 ghost use Rattle.walk.specs.View.{viewOf, Roomy};
 ghost use Rattle.walk.specs.Walk.{allSound};
-ghost use Rattle.walk.specs.Way.{soundAlong, Stands};
-ghost use Rattle.questions.specs.Found.{look, shown};
-ghost use Rattle.questions.specs.Along.{joined, lookAlong};
+ghost use Rattle.questions.specs.Found.{more, look, shown};
 ghost use Rattle.questions.specs.Single.{refusedSingle, walkedSingle, viewSingle, singleOf};
 
 // What was found for a quark: 0 nothing, p + 1 the one entry at byte p, MANY more than one.
-const MANY: u32 = 0xffff_ffff;
+const MANY: u64 = 0xffff_ffff;
 
 // What one node's entries say: R6 of all of them, and what was found so far.
 pub struct Seen {
     pub sound: bool,
-    pub found: u32,
+    pub found: u64,
 }
 
-// What a node adds to what was found before it: so many of its entries cover t, and the p + 1 of their bytes add up to `sum`.
-fn joined(found: u32, hits: u32, sum: u64) -> u32
-    requires { ⌜ (hits ≡ 1 → sum < 4294967296) ⌝ }
-    ensures { λ r. ⌜ r ≡ joined found hits sum ⌝ }
+// One more, at byte p, after s was found.
+fn more(s: u64, p: usize) -> u64
+    requires { ⌜ p < 18446744073709551615 ⌝ }
+    ensures { λ r. ⌜ r ≡ more s p ⌝ }
 {
-    if hits == 0 {
-        return found;
-    }
-    if (hits == 1) & (found == 0) {
-        return sum as u32;
-    }
-    MANY
+    if s == 0 { p as u64 + 1 } else { MANY }
 }
 
 // Each of a node's entries is read once, for R6 and for the quark asked, up to the first that does not fit; the kinds and the nulls' values are tested at the end, for all of them at once. What was found matters only where none breaks R6.
+// What would be found is made before it is asked whether the entry covers t, and then taken or left: there is nothing for a processor to guess.
 fn look(
     nodes: &[u8],
     attributes: u32,
@@ -55,7 +48,7 @@ fn look(
     t: u64,
     at: usize,
     n: u32,
-    found: u32,
+    found: u64,
 ) -> Seen
     requires { ⌜ (at + entrySize * n ≤ length (now nodes)) × (at + entrySize * n ≤ 4294967296) × (h .start ≤ h .end) ⌝ }
     ensures { λ r. ⌜ (r .sound ≡ allSound (now (nodes .entry)) attributes h at n true) × (r .sound ≡ true → r .found ≡ look (now (nodes .entry)) (quark .0) t at n found) ⌝ }
@@ -64,8 +57,7 @@ fn look(
     let end = at + layout::ENTRY * (n as usize);
     let mut nulls: u64 = 0;
     let mut kinds: u64 = 0;
-    let mut hits: u32 = 0;
-    let mut sum: u64 = 0;
+    let mut s = found;
     let span = h.end - h.start;
     let now = rules::since(h.start, t);
     while p < end {
@@ -79,54 +71,21 @@ fn look(
         kinds = rules::kinds(kinds, e);
         nulls = rules::nulls(nulls, e);
         if e.quark.0 == quark.0 {
-            let hit = rules::hit(h.start, now, e);
-            hits += hit;
-            sum += hit as u64 * (p as u64 + 1);
+            let next = more(s, p);
+            if rules::spans(h.start, now, e) {
+                s = next;
+            }
         }
         p += layout::ENTRY;
     }
     Seen {
         sound: (nulls == 0) & (kinds <= 1),
-        found: joined(found, hits, sum),
-    }
-}
-
-// The nodes along the way, R6 of all their entries and what was found for the quark.
-fn along(nodes: &[u8], v: View, quark: Quark, t: u64, path: &[u64], n: u32) -> Seen
-    requires { ⌜ (n ≤ length (now path)) × ((i : ℕ) → i < n → Stands v (now nodes) (getD (now path) i 0)) ⌝ }
-    ensures { λ r. ⌜ (r .sound ≡ soundAlong (now (nodes .entry)) v (take n (now (path .entry)))) × (r .sound ≡ true → r .found ≡ lookAlong (now (nodes .entry)) v (quark .0) t (take n (now (path .entry))) 0) ⌝ }
-{
-    let mut s: u32 = 0;
-    let mut k: u32 = 0;
-    while k < n {
-        let i = k as usize;
-        let at = path[i] as usize;
-        let h = layout::read_header(nodes, at);
-        let first = at + layout::entry_at(v.shape, 0);
-        let seen = look(
-            nodes,
-            v.attributes,
-            h,
-            quark,
-            t,
-            first,
-            h.intervals as u32,
-            s,
-        );
-        if !seen.sound {
-            return seen;
-        }
-        s = seen.found;
-        k += 1;
-    }
-    Seen {
-        sound: true,
         found: s,
     }
 }
 
 // R7: exactly one.
-fn one(s: u32) -> bool
+fn one(s: u64) -> bool
     ensures { λ r. ⌜ r ≡ shown s ⌝ }
 {
     (s != 0) & (s != MANY)
@@ -150,27 +109,57 @@ fn refused(r: Refusal) -> Single
     }
 }
 
-// The walk of a single question, and R7.
+// The walk of a single question, and R7. Where a node's way goes on is found before its entries are looked at: the next node's header is on its way from memory meanwhile.
 pub fn walked(v: View, t: u64, quark: Quark, nodes: &[u8]) -> Single
     requires { ⌜ Roomy v (now nodes) ⌝ }
     ensures { λ r. ⌜ r ≡ walkedSingle v t (quark .0) (now (nodes .entry)) ⌝ }
 {
-    let mut path = [0u64; 16];
-    let n = steps::way(nodes, v, t, &mut path);
-    if n == 0 {
+    let mut w = steps::root(v);
+    let mut level = v.level + 1;
+    let mut s: u64 = 0;
+    while 0 < level {
+        level -= 1;
+        let at = record::sound::stands_at(w.place.0, v.shape);
+        let h = layout::read_header(nodes, at);
+        let rule = rules::broken(v, w, level, h);
+        if !rules::kept(rule) {
+            return refused(Refusal::Damaged);
+        }
+        let k = steps::pick(nodes, at + layout::child_at(0), h.children as u32, t);
+        let mut c = w;
+        c.entered = w.entered + 1;
+        let g = steps::down_to(nodes, v, t, h, at, k, c);
+        let past = g.rule;
+        if !rules::kept(past) {
+            return refused(Refusal::Damaged);
+        }
+        let first = at + layout::entry_at(v.shape, 0);
+        let seen = look(
+            nodes,
+            v.attributes,
+            h,
+            quark,
+            t,
+            first,
+            h.intervals as u32,
+            s,
+        );
+        if !seen.sound {
+            return refused(Refusal::Damaged);
+        }
+        s = seen.found;
+        w = g;
+        if !g.go {
+            level = 0;
+        }
+    }
+    if !one(s) {
         return refused(Refusal::Damaged);
     }
-    let r = along(nodes, v, quark, t, &path, n);
-    if !r.sound {
-        return refused(Refusal::Damaged);
-    }
-    if !one(r.found) {
-        return refused(Refusal::Damaged);
-    }
-    let e = layout::read_entry(nodes, (r.found - 1) as usize);
+    let e = layout::read_entry(nodes, (s - 1) as usize);
     Single {
         refusal: Refusal::Nothing,
-        nodes: n,
+        nodes: w.entered,
         entry: e,
     }
 }

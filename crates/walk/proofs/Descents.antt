@@ -22,7 +22,7 @@ use Rattle.walk.specs.Walk.{placeOf, rootOf, ended, counted, onward, pic
 use Rattle.walk.specs.Way.{past, descent, descentOf, way, wayOf, nodeSound, soundAlong, Stands}
 use Rattle.walk.proofs.Room.{place-room, place-small}
 use Rattle.walk.proofs.Broken.{and-left, and-right, false-is, kept-fits}
-use Rattle.walk.proofs.Walks.{Keeps, walk-stop, descend-keeps}
+use Rattle.walk.proofs.Walks.{Keeps, walk-stop, walk-on, descend-keeps}
 
 -- ---- one node: where the walk stands past it
 
@@ -67,10 +67,6 @@ module _ (l : List ℕ) (v : View) (t : ℕ) where
   way-stop (suc n) w e = rw e
 
   module _ (n : ℕ) (w : Walk) (going : w .go ≡ true) where
-    walk-on : walk l v t (suc n) w ≡ walk l v t n (step l v t n w)
-    unfolding walk
-    walk-on = ap (λ (b : Bool). cond b (walk l v t n (step l v t n w)) w) going
-
     pub descent-on : descent l v t (suc n) w ≡ descent l v t n (past l v t n w)
     unfolding descent
     descent-on = ap (λ (b : Bool). cond b (descent l v t n (past l v t n w)) w) going

@@ -230,5 +230,5 @@ module _ (a start end : ℕ) (e : Entry) (f : Bool) (gives : f ≡ entryFits a s
   pub covers-told : (t : ℕ) (b : Bool) → e .end ≤ 18446744073709551615 → b ≡ reaches t e → b ≡ covers t e
   covers-told t b last r = r ∙ reaches-covers t e (fitting .order) last
 
-  pub hit-told : (t now x : ℕ) → e .end ≤ 18446744073709551615 → now ≡ since start t → x ≡ cond (spans start now e) 1 0 → x ≡ cond (covers t e) 1 0
-  hit-told t now x last is r = r ∙ ap (λ (b : Bool). cond b 1 0) (spans-covers a start end t now e fitting last is)
+  pub spans-told : (t now : ℕ) → e .end ≤ 18446744073709551615 → now ≡ since start t → (b : Bool) → b ≡ spans start now e → b ≡ covers t e
+  spans-told t now last is b r = r ∙ spans-covers a start end t now e fitting last is

@@ -108,13 +108,65 @@ step-keeps l v t level w r is = subst (λ (x : Walk). Keeps v (w .entered + 1) x
     go true = inside-keeps l v t (readHeader l (placeOf v (w .place))) (placeOf v (w .place)) w
     go false = ended-keeps v w (w .entered + 1) (broken v w level (readHeader l (placeOf v (w .place)))) (w .place) (omega arith)
 
--- ---- where the walk ends, and where it begins
+-- ---- the node at which the walk stands, its header h at byte p: R1 to R5, then R6, then down
+
+module _ (l : List ℕ) (v : View) (t level : ℕ) (w : Walk) (p : ℕ) (h : Header) (rule : Rule) (x : Bool)
+    (at : p ≡ placeOf v (w .place)) (reads : h ≡ readHeader l p) (is : rule ≡ broken v w level h) (good : x ≡ kept rule) where
+  stands : step l v t level w ≡ enter l v t level h p w
+  unfolding step
+  stands =
+      let f : readHeader l (placeOf v (w .place)) ≡ h = sym (reads ∙ ap (readHeader l) at) in
+      ap (λ (y : Header). enter l v t level y (placeOf v (w .place)) w) f ∙ ap (λ (k : ℕ). enter l v t level h k w) (sym at)
+
+  pub step-bad : not x ≡ true → kept (step l v t level w .rule) ≡ false
+  unfolding enter ended
+  step-bad n = rw (stands, ← is, ← good, not-true x n) (sym good ∙ not-true x n)
+
+  module _ (n : not x ≡ false) where
+    enters : step l v t level w ≡ inside l v t h p w
+    unfolding enter
+    enters = rw (stands, ← is, ← good, not-false x n)
+
+    -- whether R6 is tested before or after the way down is found, a rule is broken
+    pub step-past : kept (descend l v t h p w .rule) ≡ false → kept (step l v t level w .rule) ≡ false
+    unfolding inside ended
+    step-past e = rw enters (go (allSound l (v .attributes) h (p + entryAt (v .shape) 0) (h .intervals) true))
+      where
+        go : (b : Bool) → kept (cond b (descend l v t h p w) (ended w R6 (w .place)) .rule) ≡ false
+        go true = e
+        go false = refl
+
+    module _ (first : ℕ) (b : Bool) (from : first ≡ entryAt (v .shape) 0) (sound : b ≡ allSound l (v .attributes) h (p + first) (h .intervals) true) where
+      pub step-unsound : not b ≡ true → kept (step l v t level w .rule) ≡ false
+      unfolding inside ended
+      step-unsound m = rw (enters, ← from, ← sound, not-true b m)
+
+      pub step-down : not b ≡ false → step l v t level w ≡ descend l v t h p w
+      unfolding inside
+      step-down m = rw (enters, ← from, ← sound, not-false b m)
+
+-- ---- where the walk goes on, where it ends, and where it begins
 
 module _ (l : List ℕ) (v : View) (t : ℕ) where
   pub walk-stop : (n : ℕ) (w : Walk) → w .go ≡ false → w ≡ walk l v t n w
   unfolding walk
   walk-stop zero w e = refl
   walk-stop (suc n) w e = sym (ap (λ (b : Bool). cond b (walk l v t n (step l v t n w)) w) e)
+
+  pub walk-on : (n : ℕ) (w : Walk) → w .go ≡ true → walk l v t (suc n) w ≡ walk l v t n (step l v t n w)
+  unfolding walk
+  walk-on n w going = ap (λ (b : Bool). cond b (walk l v t n (step l v t n w)) w) going
+
+  module _ (n : ℕ) (w : Walk) (some : 0 < n) (going : w .go ≡ true) where
+    pub walk-turn : walk l v t n w ≡ walk l v t (n - 1) (step l v t (n - 1) w)
+    walk-turn = let e : n ≡ suc (n - 1) = omega arith in ap (λ (k : ℕ). walk l v t k w) e ∙ walk-on (n - 1) w going
+
+    pub walk-bad : kept (step l v t (n - 1) w .rule) ≡ false → kept (walk l v t n w .rule) ≡ false
+    walk-bad bad = ap (λ (r : Walk). kept (r .rule)) walk-turn ∙ go (step l v t (n - 1) w .go) refl
+      where
+        go : (b : Bool) → step l v t (n - 1) w .go ≡ b → kept (walk l v t (n - 1) (step l v t (n - 1) w) .rule) ≡ false
+        go true e = absurd (false-is (sym bad ∙ step-keeps l v t (n - 1) w (step l v t (n - 1) w) refl .well e))
+        go false e = ap (λ (r : Walk). kept (r .rule)) (sym (walk-stop (n - 1) (step l v t (n - 1) w) e)) ∙ bad
 
 pub root-inside : (v : View) (w : Walk) → w ≡ rootOf v → v .root .0 < v .used → w .go ≡ true → w .place .0 < v .used
 unfolding rootOf

@@ -1,4 +1,4 @@
--- How the questions go about the walk: first its way down, with R6 left out, then R6 of the nodes along it. The promise does not speak of it: laws tie it to the walk.
+-- How the full question goes about the walk: first its way down, with R6 left out, then R6 of the nodes along it. The promise does not speak of it: laws tie it to the walk.
 use Prim.Native.Nat.{ℕ, zero, suc, _+_, _≤_}
 use mathlib.Core.Bool.{Bool, true, cond, _&&_}
 use mathlib.Core.List.{List, [], _∷_}

@@ -16,7 +16,7 @@ ghost use Rattle.walk.specs.Rules.{kept};
 ghost use Rattle.walk.specs.Walk.{placeOf, rootOf, ended, onward, pick, child, downTo, descend};
 ghost use Rattle.walk.specs.Way.{descentOf, wayOf};
 
-fn root(v: View) -> Walk
+pub fn root(v: View) -> Walk
     ensures { λ r. ⌜ r ≡ rootOf v ⌝ }
 {
     let place = v.root;
@@ -69,7 +69,7 @@ fn header_at(nodes: &[u8], v: View, place: Seq) -> Header
 }
 
 // One more than the number of the last of n child entries, by position, with start at or below t; 0 if there is none: looked for from the last entry down.
-fn pick(nodes: &[u8], at: usize, n: u32, t: u64) -> u32
+pub fn pick(nodes: &[u8], at: usize, n: u32, t: u64) -> u32
     requires { ⌜ (n < 65536) × (at + childSize * n ≤ length (now nodes)) ⌝ }
     ensures { λ r. ⌜ (r ≡ pick (now (nodes .entry)) t at 0 n 0) × (r ≤ n) ⌝ }
 {
@@ -102,7 +102,7 @@ fn child(nodes: &[u8], v: View, t: u64, end: u64, c: Child, w: Walk) -> Walk
 }
 
 // Down from the node at index at to the k-th of its children, 0 for none.
-fn down_to(nodes: &[u8], v: View, t: u64, h: Header, at: usize, k: u32, w: Walk) -> Walk
+pub fn down_to(nodes: &[u8], v: View, t: u64, h: Header, at: usize, k: u32, w: Walk) -> Walk
     requires { ⌜ Roomy v (now nodes) × (at + nodeSize (v .shape) ≤ length (now nodes)) × (k ≤ v .shape .c) ⌝ }
     ensures { λ r. ⌜ r ≡ downTo (now (nodes .entry)) v t h at k w ⌝ }
 {
