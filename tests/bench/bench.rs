@@ -168,7 +168,12 @@ fn read(file: &str) -> Vec<((String, String, String), Turns)> {
     lines
 }
 
-/// Medians over all turns of all runs, and between what the ratios of the single runs lie.
+fn mean(numbers: &[f64]) -> f64 {
+    numbers.iter().sum::<f64>() / numbers.len() as f64
+}
+
+/// Of each run the median of its turns, and of the runs the mean: what a place costs is often one of two times, of which a median over
+/// the places would name one. Beside it stands between what the ratios of the runs lie.
 fn print(files: &[String]) {
     let runs: Vec<_> = files.iter().map(|file| read(file)).collect();
     let mut last = "";
@@ -178,18 +183,18 @@ fn print(files: &[String]) {
             println!("  {:34} {:>10} {:>10} {:>7}   {}", "nanoseconds a call", "library", "baseline", "ratio", "in one run");
             last = title;
         }
-        let of_line: Vec<&Turns> = runs.iter().map(|run| &run[i].1).collect();
-        let all = || of_line.iter().flat_map(|turns| turns.iter());
-        let ratio = |turns: &Turns| median(turns.iter().map(|(library, baseline)| library / baseline).collect());
-        let mut ratios: Vec<f64> = of_line.iter().map(|turns| ratio(turns)).collect();
+        let medians = |of: fn(&(f64, f64)) -> f64| -> Vec<f64> {
+            runs.iter().map(|run| median(run[i].1.iter().map(of).collect())).collect()
+        };
+        let mut ratios = medians(|(library, baseline)| library / baseline);
         ratios.sort_by(f64::total_cmp);
         let word = if refused != "0" { format!("   {} refused", refused) } else { String::new() };
         println!(
             "  {:34} {:10.0} {:10.0} {:7.2}   {:.2} to {:.2}{}",
             name,
-            median(all().map(|turn| turn.0).collect()),
-            median(all().map(|turn| turn.1).collect()),
-            median(all().map(|(library, baseline)| library / baseline).collect()),
+            mean(&medians(|turn| turn.0)),
+            mean(&medians(|turn| turn.1)),
+            mean(&ratios),
             ratios[0],
             ratios[ratios.len() - 1],
             word
