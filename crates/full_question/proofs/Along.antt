@@ -14,22 +14,17 @@ use Rattle.walk.specs.declared.View.{View}
 use Rattle.walk.specs.declared.Walk.{Walk}
 use Rattle.walk.specs.View.{Roomy}
 use Rattle.walk.specs.Rules.{kept}
-use Rattle.walk.specs.Walk.{placeOf, rootOf, ended, allSound, inside, enter, step, walkOf}
+use Rattle.walk.specs.Walk.{placeOf, rootOf, ended, allSound, enter, step, walkOf}
 use Rattle.walk.specs.Way.{past, descentOf, way, wayOf, nodeSound, soundAlong, Stands}
 use Rattle.full_question.specs.Table.{noteAll, noteIn, noteAt, foundFrom, foundAll}
 use Rattle.full_question.specs.Along.{noteAlong}
 use Rattle.walk.proofs.Broken.{and-left, and-right}
-use Rattle.walk.proofs.Descents.{well, walk-descends, walk-unsound, walk-broken, way-entered, way-some, way-few, way-stands}
+use Rattle.walk.proofs.Descents.{well, step-sound, walk-descends, walk-unsound, walk-broken, way-entered, way-some, way-few, way-stands}
 use Rattle.full_question.proofs.Tables.{from-stop}
 
 -- ---- one node
 
 module _ (l : List ℕ) (v : View) (t level : ℕ) (w : Walk) where
-  -- where its entries keep R6, the walk goes on as the way does
-  step-past : well l v level w ≡ true → nodeSound l v (placeOf v (w .place)) ≡ true → step l v t level w ≡ past l v t level w
-  unfolding step enter inside past nodeSound
-  step-past k s = rw (k, s)
-
   step-stops : well l v level w ≡ false → step l v t level w .go ≡ false
   unfolding step enter ended
   step-stops k = rw k
@@ -63,7 +58,7 @@ module _ (l : List ℕ) (v : View) (t : ℕ) where
           → soundAlong l v (cond (a && b) (p ∷ on) []) ≡ true
           → cond a (foundFrom l v t n (step l v t n w) (noteAt l v t n w xs)) xs ≡ noteAlong l v t (cond (a && b) (p ∷ on) []) xs
       go true true k f e =
-          ap (λ (x : Walk). foundFrom l v t n x (noteAt l v t n w xs)) (step-past l v t n w k (and-left (nodeSound l v p) (soundAlong l v on) e))
+          ap (λ (x : Walk). foundFrom l v t n x (noteAt l v t n w xs)) (step-sound l v t n w k (and-left (nodeSound l v p) (soundAlong l v on) e))
           ∙ ap (λ (x : List ℕ). foundFrom l v t n (past l v t n w) x) (note-kept l v t n w xs k)
           ∙ f (and-right (nodeSound l v p) (soundAlong l v on) e)
       go true false k f e = sym (from-stop l v t n (step l v t n w) (noteAt l v t n w xs) (step-stops l v t n w k)) ∙ note-broken l v t n w xs k

@@ -36,22 +36,23 @@ module _ (l : List ℕ) (v : View) (t n : ℕ) (w : Walk) where
     unfolding past
     past-well = rw good
 
-    step-sound : nodeSound l v (placeOf v (w .place)) ≡ true → step l v t n w ≡ past l v t n w
+    -- where its entries keep R6, the walk goes on as the way does
+    pub step-sound : nodeSound l v (placeOf v (w .place)) ≡ true → step l v t n w ≡ past l v t n w
     unfolding step enter inside past nodeSound
     step-sound s = rw (good, s)
 
-    step-unsound : nodeSound l v (placeOf v (w .place)) ≡ false → step l v t n w ≡ ended w R6 (w .place)
+    step-ends : nodeSound l v (placeOf v (w .place)) ≡ false → step l v t n w ≡ ended w R6 (w .place)
     unfolding step enter inside nodeSound
-    step-unsound s = rw (good, s)
+    step-ends s = rw (good, s)
 
   module _ (bad : well l v n w ≡ false) where
     pub past-bad : past l v t n w ≡ ended w (broken v w n (readHeader l (placeOf v (w .place)))) (w .place)
     unfolding past
     past-bad = rw bad
 
-    step-bad : step l v t n w ≡ past l v t n w
+    step-broken : step l v t n w ≡ past l v t n w
     unfolding step enter past
-    step-bad = rw bad
+    step-broken = rw bad
 
 -- ---- the loops, turn by turn
 
@@ -101,7 +102,7 @@ module _ (l : List ℕ) (v : View) (t : ℕ) where
       go false b x y rest = sym (walk-stop l v t (suc n) w x) ∙ sym (descent-stop l v t (suc n) w x)
       go true false x y rest =
           walk-on l v t n w x
-          ∙ ap (walk l v t n) (step-bad l v t n w y ∙ past-bad l v t n w y)
+          ∙ ap (walk l v t n) (step-broken l v t n w y ∙ past-bad l v t n w y)
           ∙ sym (walk-stop l v t n (ended w (broken v w n (readHeader l (placeOf v (w .place)))) (w .place)) refl)
           ∙ sym (descent-bad l v t n w x y)
       go true true x y rest =
@@ -126,7 +127,7 @@ module _ (l : List ℕ) (v : View) (t : ℕ) where
           sym (ap (soundAlong l v) (way-on l v t n w x y) ∙ ap (λ (b : Bool). b && soundAlong l v (way l v t n (past l v t n w))) z) ∙ s in
           ap (λ (g : Walk). kept (g .rule)) (walk-on l v t n w x ∙ ap (walk l v t n) (step-sound l v t n w y z)) ∙ rest e
       go true true false x y z rest =
-          ap (λ (g : Walk). kept (g .rule)) (walk-on l v t n w x ∙ ap (walk l v t n) (step-unsound l v t n w y z) ∙ sym (walk-stop l v t n (ended w R6 (w .place)) refl))
+          ap (λ (g : Walk). kept (g .rule)) (walk-on l v t n w x ∙ ap (walk l v t n) (step-ends l v t n w y z) ∙ sym (walk-stop l v t n (ended w R6 (w .place)) refl))
 
   pub walk-descends : soundAlong l v (wayOf l v t) ≡ true → walkOf l v t ≡ descentOf l v t
   unfolding walkOf descentOf wayOf
