@@ -1,6 +1,6 @@
 pub mod After
 pub mod Tables
-pub mod Along
 pub mod Fulls
 pub mod Heads
 pub mod Once
+pub mod Gathering

@@ -2,32 +2,26 @@
 use Prim.Native.Nat.{ℕ, _+_, _-_, _≤_, _<_}
 use mathlib.Core.Path.{_≡_, refl, sym, ap, _∙_}
 use mathlib.Core.Bool.{Bool, true, false, cond, not, _&&_}
-use mathlib.Core.List.{List, [], _∷_}
+use mathlib.Core.List.{List}
 use native.Mathlib.Omega.{arith}
 use lib.Dec.{eqb}
-use lib.ListN.{length, getD, set, take}
-use lib.Seq.{getD-set-same, getD-set-other, slice}
+use lib.ListN.{length, getD, set}
+use lib.Seq.{getD-set-same, getD-set-other}
 use borrow.Author.Tests.{eqb-true, eqb-false, eq-eqb, ne-eqb, not-true, not-false}
 use Rattle.layout.specs.declared.Entry.{Entry}
-use Rattle.layout.specs.declared.Header.{Header}
-use Rattle.layout.specs.Layout.{entrySize, entryAt, readHeader, readEntry}
-use Rattle.record.specs.declared.Refusal.the-variants.{Damaged}
+use Rattle.layout.specs.Layout.{entrySize, readEntry}
 use Rattle.walk.specs.declared.View.{View}
+use Rattle.walk.specs.declared.Walk.{Walk}
 use Rattle.walk.specs.View.{Roomy}
-use Rattle.walk.specs.Rules.{kept, covers}
-use Rattle.walk.specs.Walk.{allSound}
-use Rattle.walk.specs.Way.{descentOf, wayOf, soundAlong}
-use Rattle.full_question.specs.declared.Full.{Full}
-use Rattle.questions.specs.Found.{many, more, look, shown}
-use Rattle.questions.specs.Single.{fromTable, entryFine}
-use Rattle.full_question.specs.Full.{everyQuark, refusedFull, walkedFull, walkedWritten}
-use Rattle.full_question.specs.Table.{ongoing, allBegun, noteIf, note, noteAll, foundAll, once}
-use Rattle.full_question.specs.Along.{noteAlong}
+use Rattle.walk.specs.Rules.{covers}
+use Rattle.questions.specs.Found.{many, more, look, found, shown}
+use Rattle.questions.specs.Single.{fromTable}
+use Rattle.full_question.specs.Full.{everyQuark}
+use Rattle.full_question.specs.Table.{ongoing, allBegun, noteIf, note, noteAll, foundFrom, foundAll, once}
 use Rattle.walk.proofs.Broken.{and-left, and-right, and-no}
-use Rattle.full_question.proofs.After.{many-more, look-after}
-use Rattle.full_question.proofs.Tables.{length-note, all-turn, length-all, all-at}
-use Rattle.full_question.proofs.Along.{along-stop, note-on, unsound-walked, along-walked, along-notes}
-use Rattle.full_question.proofs.Fulls.{every-at, every-false, every-true, every-same, all-found, begun-slot, all-alone, full-walk, full-many}
+use Rattle.full_question.proofs.After.{many-more, look-after, found-after}
+use Rattle.full_question.proofs.Tables.{length-note, all-turn, all-at, found-all-at}
+use Rattle.full_question.proofs.Fulls.{every-at, every-false, every-true, every-same, begun-slot}
 
 -- ---- what `once` says
 
@@ -56,7 +50,7 @@ module _ (n : ℕ) (xs : List ℕ) where
       go false = refl
 
   -- and without it R7 fails
-  once-needed : once n xs ≡ false → false ≡ everyQuark (λ q. shown (getD xs q 0)) n
+  pub once-needed : once n xs ≡ false → false ≡ everyQuark (λ q. shown (getD xs q 0)) n
   unfolding shown
   once-needed e = go (everyQuark (λ q. shown (getD xs q 0)) n) refl
     where
@@ -79,10 +73,8 @@ module _ (l : List ℕ) (t : ℕ) where
   all-lost : (a p n : ℕ) (xs : List ℕ) → a ≤ length xs → once a xs ≡ false → once a (noteAll l t p n xs) ≡ false
   all-lost a p n xs long e = once-lost a xs (noteAll l t p n xs) (λ q h m. all-at l q t p n xs (omega arith) ∙ ap (look l q t p n) m ∙ many-more (look l q t p n) (look-after l q t p n)) e
 
-  along-lost : (v : View) (a : ℕ) (ps xs : List ℕ) → a ≤ length xs → once a xs ≡ false → once a (noteAlong l v t ps xs) ≡ false
-  unfolding noteAlong
-  along-lost v a [] xs long e = e
-  along-lost v a (p ∷ ps) xs long e = along-lost v a ps _ (omega (arith, length-all l t (p + entryAt (v .shape) 0) (readHeader l p .intervals) xs)) (all-lost a (p + entryAt (v .shape) 0) (readHeader l p .intervals) xs long e)
+  pub from-lost : (v : View) (a n : ℕ) (w : Walk) (xs : List ℕ) → a ≤ length xs → once a xs ≡ false → once a (foundFrom l v t n w xs) ≡ false
+  from-lost v a n w xs long e = once-lost a xs (foundFrom l v t n w xs) (λ q h m. found-all-at l v t q n w xs (omega arith) ∙ ap (found l v q t n w) m ∙ many-more (found l v q t n w) (found-after l v q t n w)) e
 
 -- ---- an entry is noted: r tells whether it is the first for its quark
 
@@ -142,59 +134,18 @@ module _ (b s : Bool) (a : ℕ) (ys : List ℕ) (tells : b ≡ (s && once a ys))
   pub both-once : (xs : List ℕ) → (b ≡ true → xs ≡ ys) → once a xs ≡ true
   both-once xs notes = ap (once a) (notes (not-false b m)) ∙ and-right s (once a ys) holds
 
-second-found : (b s : Bool) (a : ℕ) (ys : List ℕ) → b ≡ (s && once a ys) → not b ≡ true → s ≡ true → once a ys ≡ false
+pub second-found : (b s : Bool) (a : ℕ) (ys : List ℕ) → b ≡ (s && once a ys) → not b ≡ true → s ≡ true → once a ys ≡ false
 second-found b s a ys tells m e = ap (λ (x : Bool). x && once a ys) (sym e) ∙ sym tells ∙ not-true b m
 
--- ---- a node on the way that ends it
+-- ---- before the walk nothing is found, in zs, and the ongoing states are noted in ys
 
-module _ (l : List ℕ) (v : View) (t : ℕ) (path : List ℕ) (n i p : ℕ) (h : Header) (first : ℕ)
-    (lt : i < n) (long : n ≤ length path) (at : p ≡ getD path i 0) (reads : h ≡ readHeader l p) (from : first ≡ entryAt (v .shape) 0) where
-  pub both-stop : (xs : List ℕ) (b : Bool) → v .attributes ≤ length xs
-      → b ≡ (allSound l (v .attributes) h (p + first) (h .intervals) true && once (v .attributes) (noteAll l t (p + first) (h .intervals) xs)) → not b ≡ true
-      → (soundAlong l v (slice i n path) && once (v .attributes) (noteAlong l v t (slice i n path) xs)) ≡ false
-  both-stop xs b room tells m = go S refl
-    where
-      S : Bool
-      S = allSound l (v .attributes) h (p + first) (h .intervals) true
-
-      ys : List ℕ
-      ys = noteAll l t (p + first) (h .intervals) xs
-
-      go : (s : Bool) → S ≡ s → (soundAlong l v (slice i n path) && once (v .attributes) (noteAlong l v t (slice i n path) xs)) ≡ false
-      go false e =
-          ap (λ (x : Bool). x && once (v .attributes) (noteAlong l v t (slice i n path) xs)) (along-stop l v t path n i p h first lt long at reads from S refl (ap not e))
-      go true e =
-          and-no (soundAlong l v (slice i n path)) _
-          (ap (once (v .attributes)) (note-on l v t path n i p h first lt long at reads from xs ys refl)
-          ∙ along-lost l t v (v .attributes) (slice (i + 1) n path) ys (omega (arith, length-all l t (p + first) (h .intervals) xs)) (second-found b S (v .attributes) ys tells m e))
-
--- ---- the walk of the question: of n nodes on the way that a path notes; before it nothing is found, in zs, and the ongoing states are noted in ys
-
-module _ (v : View) (t : ℕ) (l table : List ℕ) (roomy : Roomy v l) (zs : List ℕ) (long : v .attributes ≤ length zs) (blank : (q : ℕ) → q < v .attributes → getD zs q 0 ≡ 0)
-    (ys : List ℕ) (x : Bool) (fine : x ≡ everyQuark (λ q. entryFine v q table) (v .attributes)) (begins : x ≡ true → ys ≡ allBegun v t table zs) (y : not x ≡ false) where
-  pub begun-once : once (v .attributes) ys ≡ true
-  begun-once = ap (once (v .attributes)) (begins (not-false x y)) ∙ once-made (v .attributes) (allBegun v t table zs) (λ q h m. none (fromTable v t q table) (sym (begun-slot v t l table roomy zs long blank (foundAll l v t (allBegun v t table zs)) refl q h) ∙ m))
-    where
-      none : (b : Bool) → cond b ongoing 0 ≡ many → ⊥
-      none true e = omega arith
-      none false e = omega arith
-
-  module _ (path : List ℕ) (n : ℕ) (is : n ≡ cond (kept (descentOf l v t .rule)) (length (wayOf l v t)) 0) (notes : 0 < n → take n path ≡ wayOf l v t) (some : n ≡ 0 → ⊥) where
-    -- along it an entry breaks R6, or a second one is found for a quark: R7 fails
-    pub full-stop : (b : Bool) → b ≡ (soundAlong l v (take n path) && once (v .attributes) (noteAlong l v t (take n path) ys)) → not b ≡ true
-        → (at : ℕ) (answer : List ℕ) (r : Full) → r ≡ refusedFull Damaged → (r ≡ walkedFull v t l table) × (answer ≡ walkedWritten v t l table at answer)
-    full-stop b tells m at answer r refuses = go S refl
-      where
-        S : Bool
-        S = soundAlong l v (take n path)
-
-        xs : List ℕ
-        xs = noteAlong l v t (take n path) ys
-
-        go : (s : Bool) → S ≡ s → (r ≡ walkedFull v t l table) × (answer ≡ walkedWritten v t l table at answer)
-        go false e = full-walk v t l table at answer r x fine y (unsound-walked l v t path n is notes some S refl (ap not e)) refuses
-        go true e =
-            full-many v t l table at answer r x fine y (along-walked l v t path n is notes some S refl (ap not e)) false
-            (all-alone v t l table roomy zs long blank xs (all-found l v t table zs ys xs x begins y (along-notes l v t path n is notes some S refl (ap not e) ys xs (λ z. refl))) false
-            (once-needed (v .attributes) xs (second-found b S (v .attributes) xs tells m e)))
-            refl refuses
+pub begun-once : (v : View) (t : ℕ) (l table : List ℕ) (roomy : Roomy v l) (zs : List ℕ) (long : v .attributes ≤ length zs) (blank : (q : ℕ) → q < v .attributes → getD zs q 0 ≡ 0)
+    (ys : List ℕ) (x : Bool) (begins : x ≡ true → ys ≡ allBegun v t table zs) (y : not x ≡ false) (a : ℕ) → a ≡ v .attributes → once a ys ≡ true
+begun-once v t l table roomy zs long blank ys x begins y a same =
+    ap (λ (k : ℕ). once k ys) same
+    ∙ ap (once (v .attributes)) (begins (not-false x y))
+    ∙ once-made (v .attributes) (allBegun v t table zs) (λ q h m. none (fromTable v t q table) (sym (begun-slot v t l table roomy zs long blank (foundAll l v t (allBegun v t table zs)) refl q h) ∙ m))
+  where
+    none : (b : Bool) → cond b ongoing 0 ≡ many → ⊥
+    none true e = omega arith
+    none false e = omega arith

@@ -9,6 +9,7 @@ use lib.ListN.{length, getD, set, length-set}
 use lib.Seq.{getD-set-same, getD-set-other}
 use borrow.Author.Tests.{eqb-true, eqb-false, eq-eqb, ne-eqb, le-leb, lt-leb}
 use Rattle.layout.specs.declared.Entry.{Entry}
+use Rattle.layout.specs.declared.Header.{Header}
 use Rattle.layout.specs.Layout.{entrySize, entryAt, readHeader, readEntry}
 use Rattle.transient.specs.declared.Ongoing.{Ongoing}
 use Rattle.transient.specs.Transient.{ongoingAt}
@@ -114,9 +115,22 @@ module _ (l : List ℕ) (v : View) (t level : ℕ) (w : Walk) (xs : List ℕ) wh
       go true = all-at l q t at n xs h
       go false = refl
 
+-- its header h at byte p
+pub note-node : (l : List ℕ) (v : View) (t level : ℕ) (w : Walk) (xs : List ℕ) (p : ℕ) (h : Header) (first : ℕ) → p ≡ placeOf v (w .place) → h ≡ readHeader l p → kept (broken v w level h) ≡ true → first ≡ entryAt (v .shape) 0
+    → noteAt l v t level w xs ≡ noteAll l t (p + first) (h .intervals) xs
+unfolding noteAt noteIn
+note-node l v t level w xs p h first at reads good from = rw (← at, ← reads, good, ← from) (ap (λ (x : Header). noteAll l t (p + first) (x .intervals) xs) (sym reads))
+
 -- ---- the walk
 
 module _ (l : List ℕ) (v : View) (t : ℕ) where
+  pub from-turn : (n : ℕ) (w : Walk) (xs : List ℕ) → 0 < n → w .go ≡ true → foundFrom l v t n w xs ≡ foundFrom l v t (n - 1) (step l v t (n - 1) w) (noteAt l v t (n - 1) w xs)
+  unfolding foundFrom
+  from-turn n w xs some going =
+      let e : n ≡ suc (n - 1) = omega arith in
+      ap (λ (k : ℕ). foundFrom l v t k w xs) e
+      ∙ ap (λ (b : Bool). cond b (foundFrom l v t (n - 1) (step l v t (n - 1) w) (noteAt l v t (n - 1) w xs)) xs) going
+
   pub from-stop : (n : ℕ) (w : Walk) (xs : List ℕ) → w .go ≡ false → xs ≡ foundFrom l v t n w xs
   unfolding foundFrom
   from-stop zero w xs e = refl

@@ -1,3 +1,2 @@
 pub mod Full
 pub mod Table
-pub mod Along

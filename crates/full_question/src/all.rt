@@ -12,20 +12,19 @@ use walk::steps;
 ghost use mathlib.Core.Path.{_≡_};
 ghost use mathlib.Core.Bool.{true, false, not, _&&_};
 ghost use Prim.Native.Nat.{ℕ, _+_, _*_, _/_, _≤_, _<_};
-ghost use lib.Dec.{eqb};
-ghost use lib.ListN.{length, getD, take};
+ghost use lib.Dec.{ltb, eqb};
+ghost use lib.ListN.{length, getD};
 ghost use lib.Seq.{sets};
 ghost use Rattle.layout.specs.Layout.{entrySize};
 ghost use Rattle.record.specs.Record.{recordOf};
 ghost use Rattle.walk.specs.View.{Roomy};
 ghost use Rattle.walk.specs.Since.{reaches};
-ghost use Rattle.walk.specs.Walk.{allSound};
-ghost use Rattle.walk.specs.Way.{soundAlong, Stands};
+ghost use Rattle.walk.specs.Rules.{kept};
+ghost use Rattle.walk.specs.Walk.{allSound, walkOf};
 ghost use Rattle.questions.specs.Found.{shown};
 ghost use Rattle.questions.specs.Single.{entryFine};
-ghost use Rattle.full_question.specs.Along.{noteAlong};
 ghost use Rattle.full_question.specs.Full.{everyQuark, refusedFull, walkedFull, walkedWritten, fullOf, fullWritten};
-ghost use Rattle.full_question.specs.Table.{noteIf, noteAll, once, begun, allBegun, entryFor, entriesFrom, Readable};
+ghost use Rattle.full_question.specs.Table.{noteIf, noteAll, foundAll, once, begun, allBegun, entryFor, entriesFrom, Readable};
 
 // What was found for each quark: 0 nothing, p + 1 the one entry at byte p, ONGOING its ongoing state. At a second one the question ends.
 const ONGOING: u32 = 0xffff_fffe;
@@ -64,7 +63,7 @@ fn look(
     n: u32,
     found: &mut [u32],
 ) -> bool
-    requires { ⌜ (at + entrySize * n ≤ length (now nodes)) × (at + entrySize * n ≤ 4294967296) × (attributes ≤ length (now found)) × (h .start ≤ h .end) × (once attributes (now found) ≡ true) ⌝ }
+    requires { ⌜ (at + entrySize * n ≤ length (now nodes)) × (at + entrySize * n ≤ 4294967296) × (attributes ≤ length (now found)) × (once attributes (now found) ≡ true) ⌝ }
     ensures { λ r. ⌜ (r ≡ (allSound (now (nodes .entry)) attributes h at n true && once attributes (noteAll (now (nodes .entry)) t at n (now (found .entry))))) × (r ≡ true → now (found .exit) ≡ noteAll (now (nodes .entry)) t at n (now (found .entry))) ⌝ }
 {
     let mut i: u32 = 0;
@@ -87,23 +86,40 @@ fn look(
     (nulls == 0) & (kinds <= 1)
 }
 
-// The nodes along the way, R6 of all their entries, each noted for its quark, up to a second one.
-fn along(nodes: &[u8], v: View, t: u64, path: &[u64], n: u32, found: &mut [u32]) -> bool
-    requires { ⌜ (n ≤ length (now path)) × ((i : ℕ) → i < n → Stands v (now nodes) (getD (now path) i 0)) × (v .attributes ≤ length (now found)) × (once (v .attributes) (now found) ≡ true) ⌝ }
-    ensures { λ r. ⌜ (r ≡ (soundAlong (now (nodes .entry)) v (take n (now (path .entry))) && once (v .attributes) (noteAlong (now (nodes .entry)) v t (take n (now (path .entry))) (now (found .entry))))) × (r ≡ true → now (found .exit) ≡ noteAlong (now (nodes .entry)) v t (take n (now (path .entry))) (now (found .entry))) ⌝ }
+// The walk: R1 to R6 of the nodes that it enters, and each of their entries noted for its quark, up to a second one. Tells how many nodes they are, 0 where a rule is broken.
+// Where a node's way goes on is found before its entries are looked at: the next node's header is on its way from memory meanwhile.
+fn gather(nodes: &[u8], v: View, t: u64, attributes: u32, found: &mut [u32]) -> u32
+    requires { ⌜ Roomy v (now nodes) × (attributes ≡ v .attributes) × (attributes ≤ length (now found)) × (once attributes (now found) ≡ true) ⌝ }
+    ensures { λ r. ⌜ (ltb 0 r ≡ (kept (walkOf (now (nodes .entry)) v t .rule) && once attributes (foundAll (now (nodes .entry)) v t (now (found .entry))))) × (0 < r → (r ≡ walkOf (now (nodes .entry)) v t .entered) × (now (found .exit) ≡ foundAll (now (nodes .entry)) v t (now (found .entry)))) ⌝ }
 {
-    let mut k: u32 = 0;
-    while k < n {
-        let i = k as usize;
-        let at = path[i] as usize;
+    let mut w = steps::root(v);
+    let mut level = v.level + 1;
+    while 0 < level {
+        level -= 1;
+        let at = record::sound::stands_at(w.place.0, v.shape);
         let h = layout::read_header(nodes, at);
-        let first = at + layout::entry_at(v.shape, 0);
-        if !look(nodes, v.attributes, h, t, first, h.intervals as u32, found) {
-            return false;
+        let rule = rules::broken(v, w, level, h);
+        if !rules::kept(rule) {
+            return 0;
         }
-        k += 1;
+        let k = steps::pick(nodes, at + layout::child_at(0), h.children as u32, t);
+        let mut c = w;
+        c.entered = w.entered + 1;
+        let g = steps::down_to(nodes, v, t, h, at, k, c);
+        let past = g.rule;
+        if !rules::kept(past) {
+            return 0;
+        }
+        let first = at + layout::entry_at(v.shape, 0);
+        if !look(nodes, attributes, h, t, first, h.intervals as u32, found) {
+            return 0;
+        }
+        w = g;
+        if !g.go {
+            level = 0;
+        }
     }
-    true
+    w.entered
 }
 
 // An ongoing state that starts at or below t is noted.
@@ -180,6 +196,7 @@ fn write_entries(nodes: &[u8], table: &[u8], found: &[u32], answer: &mut [u8], a
 }
 
 // The ongoing entries, one walk for all attributes, R7; then, and only then, the entries are written, from index at of the answer on. Found is lent with nothing found yet.
+// The attribute count is handed over by itself: an argument that stands in memory is compared there, and takes no register from the loop over the entries.
 fn walked_in(
     v: View,
     t: u64,
@@ -187,26 +204,23 @@ fn walked_in(
     table: &[u8],
     answer: &mut [u8],
     at: usize,
+    attributes: u32,
     found: &mut [u32],
 ) -> Full
-    requires { ⌜ Roomy v (now nodes) × (v .finished ≡ false → v .attributes ≤ length (now table) / entrySize) × (at + entrySize * v .attributes ≤ length (now answer)) × (v .attributes ≤ length (now found)) × ((q : ℕ) → q < v .attributes → getD (now found) q 0 ≡ 0) ⌝ }
+    requires { ⌜ Roomy v (now nodes) × (attributes ≡ v .attributes) × (v .finished ≡ false → v .attributes ≤ length (now table) / entrySize) × (at + entrySize * v .attributes ≤ length (now answer)) × (v .attributes ≤ length (now found)) × ((q : ℕ) → q < v .attributes → getD (now found) q 0 ≡ 0) ⌝ }
     ensures { λ r. ⌜ (r ≡ walkedFull v t (now (nodes .entry)) (now (table .entry))) × (now (answer .exit) ≡ walkedWritten v t (now (nodes .entry)) (now (table .entry)) at (now (answer .entry))) ⌝ }
 {
     if !note_ongoing(table, v, t, found) {
         return refused(Refusal::Damaged);
     }
-    let mut path = [0u64; 16];
-    let n = steps::way(nodes, v, t, &mut path);
+    let n = gather(nodes, v, t, attributes, found);
     if n == 0 {
         return refused(Refusal::Damaged);
     }
-    if !along(nodes, v, t, &path, n, found) {
+    if !all_one(found, attributes) {
         return refused(Refusal::Damaged);
     }
-    if !all_one(found, v.attributes) {
-        return refused(Refusal::Damaged);
-    }
-    write_entries(nodes, table, found, answer, at, v.attributes);
+    write_entries(nodes, table, found, answer, at, attributes);
     Full {
         refusal: Refusal::Nothing,
         nodes: n,
@@ -220,14 +234,14 @@ pub fn walked(v: View, t: u64, nodes: &[u8], table: &[u8], answer: &mut [u8], at
 {
     if v.attributes <= 64 {
         let mut few = [0u32; 64];
-        return walked_in(v, t, nodes, table, answer, at, &mut few);
+        return walked_in(v, t, nodes, table, answer, at, v.attributes, &mut few);
     }
     if v.attributes <= 512 {
         let mut some = [0u32; 512];
-        return walked_in(v, t, nodes, table, answer, at, &mut some);
+        return walked_in(v, t, nodes, table, answer, at, v.attributes, &mut some);
     }
     let mut found = [0u32; 4096];
-    walked_in(v, t, nodes, table, answer, at, &mut found)
+    walked_in(v, t, nodes, table, answer, at, v.attributes, &mut found)
 }
 
 pub fn full(

@@ -3,5 +3,5 @@ pub mod Broken
 pub mod Entries
 pub mod Ways
 pub mod Walks
-pub mod Descents
+pub mod Turns
 pub mod Admitted

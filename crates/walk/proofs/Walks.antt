@@ -32,14 +32,12 @@ sound-lost l a h p (suc n) = sound-lost l a h (p + entrySize) n
 
 -- b: of those before; f: the next entry fits
 module _ (l : List ℕ) (a : ℕ) (h : Header) (p n i : ℕ) (b : Bool) where
-  module _ (e : Entry) (f : Bool) (is : e ≡ readEntry l p) (bounds : h .start ≤ h .end) (gives : f ≡ entryFits a (h .start) (h .start + (h .end - h .start)) e) (lt : i < n) where
+  module _ (e : Entry) (f : Bool) (is : e ≡ readEntry l p) (gives : f ≡ entryFits a (h .start) (h .end) e) (lt : i < n) where
     turn : allSound l a h p (n - i) b ≡ allSound l a h (p + entrySize) (n - (i + 1)) (b && (f && stateSound (e .kind) (e .value)))
     unfolding allSound
     turn =
         let z : n - i ≡ suc (n - (i + 1)) = omega arith in
-        let end : h .start + (h .end - h .start) ≡ h .end = omega arith in
-        let fits : entryFits a (h .start) (h .end) e ≡ f = sym (gives ∙ ap (λ (x : ℕ). entryFits a (h .start) x e) end) in
-        let y : entrySound a h (readEntry l p) ≡ (f && stateSound (e .kind) (e .value)) = ap (entrySound a h) (sym is) ∙ sound-both a h e ∙ ap (λ (x : Bool). x && stateSound (e .kind) (e .value)) fits in
+        let y : entrySound a h (readEntry l p) ≡ (f && stateSound (e .kind) (e .value)) = ap (entrySound a h) (sym is) ∙ sound-both a h e ∙ ap (λ (x : Bool). x && stateSound (e .kind) (e .value)) (sym gives) in
         ap (λ (k : ℕ). allSound l a h p k b) z ∙ ap (λ (x : Bool). allSound l a h (p + entrySize) (n - (i + 1)) (b && x)) y
 
     pub sound-turn : (b′ : Bool) → b′ ≡ (b && stateSound (e .kind) (e .value)) → not f ≡ false → allSound l a h p (n - i) b ≡ allSound l a h (p + entrySize) (n - (i + 1)) b′
@@ -56,57 +54,79 @@ module _ (l : List ℕ) (a : ℕ) (h : Header) (p n i : ℕ) (b : Bool) where
   unfolding allSound
   sound-done le = let z : n - i ≡ 0 = omega arith in ap (λ (k : ℕ). allSound l a h p k b) z
 
--- ---- a step stays within the used nodes, goes on only where no rule is broken, and enters at most one
+-- ---- a step stays within the used nodes, and goes on only where no rule is broken
 
-pub record Keeps (v : View) (m : ℕ) (r : Walk) : Type 0 where
+pub record Keeps (v : View) (r : Walk) : Type 0 where
   pub inside : r .go ≡ true → r .place .0 < v .used
   pub well : r .go ≡ true → kept (r .rule) ≡ true
-  pub few : r .entered ≤ m
 
-ended-keeps : (v : View) (w : Walk) (m : ℕ) (rule : Rule) (place : Seq) → w .entered ≤ m → Keeps v m (ended w rule place)
+ended-keeps : (v : View) (w : Walk) (rule : Rule) (place : Seq) → Keeps v (ended w rule place)
 unfolding ended
-ended-keeps v w m rule place h = record { inside = λ e. absurd (false-is e); well = λ e. absurd (false-is e); few = h }
+ended-keeps v w rule place = record { inside = λ e. absurd (false-is e); well = λ e. absurd (false-is e) }
 
-child-keeps : (l : List ℕ) (v : View) (t end : ℕ) (c : Child) (m : ℕ) (w : Walk) → w .entered ≤ m → Keeps v m (child l v t end c w)
+child-keeps : (l : List ℕ) (v : View) (t end : ℕ) (c : Child) (w : Walk) → Keeps v (child l v t end c w)
 unfolding child onward
-child-keeps l v t end c m w few = go (ltb (c .sequence .0) (v .used)) (holds t (readHeader l (placeOf v (c .sequence)))) refl
+child-keeps l v t end c w = go (ltb (c .sequence .0) (v .used)) (holds t (readHeader l (placeOf v (c .sequence)))) refl
   where
-    on : c .sequence .0 < v .used → Keeps v m (onward w c end)
-    on lt = record { inside = λ e. lt; well = λ e. refl; few = few }
+    on : c .sequence .0 < v .used → Keeps v (onward w c end)
+    on lt = record { inside = λ e. lt; well = λ e. refl }
 
-    go : (a b : Bool) → ltb (c .sequence .0) (v .used) ≡ a → Keeps v m (cond a (cond b (onward w c end) (ended w Kept (w .place))) (ended w R1 (c .sequence)))
+    go : (a b : Bool) → ltb (c .sequence .0) (v .used) ≡ a → Keeps v (cond a (cond b (onward w c end) (ended w Kept (w .place))) (ended w R1 (c .sequence)))
     go true true e = on (ltb-true _ _ e)
-    go true false e = ended-keeps v w m Kept (w .place) few
-    go false b e = ended-keeps v w m R1 (c .sequence) few
+    go true false e = ended-keeps v w Kept (w .place)
+    go false b e = ended-keeps v w R1 (c .sequence)
 
-down-keeps : (l : List ℕ) (v : View) (t : ℕ) (h : Header) (p k m : ℕ) (w : Walk) → w .entered ≤ m → Keeps v m (downTo l v t h p k w)
+down-keeps : (l : List ℕ) (v : View) (t : ℕ) (h : Header) (p k : ℕ) (w : Walk) → Keeps v (downTo l v t h p k w)
 unfolding downTo
-down-keeps l v t h p k m w few = go (eqb k 0)
+down-keeps l v t h p k w = go (eqb k 0)
   where
-    go : (a : Bool) → Keeps v m (cond a (ended w Kept (w .place)) (child l v t (h .end) (readChild l (p + childAt (k - 1))) w))
-    go true = ended-keeps v w m Kept (w .place) few
-    go false = child-keeps l v t (h .end) (readChild l (p + childAt (k - 1))) m w few
+    go : (a : Bool) → Keeps v (cond a (ended w Kept (w .place)) (child l v t (h .end) (readChild l (p + childAt (k - 1))) w))
+    go true = ended-keeps v w Kept (w .place)
+    go false = child-keeps l v t (h .end) (readChild l (p + childAt (k - 1))) w
 
-pub descend-keeps : (l : List ℕ) (v : View) (t : ℕ) (h : Header) (p : ℕ) (w r : Walk) → r ≡ descend l v t h p w → Keeps v (w .entered + 1) r
+pub descend-keeps : (l : List ℕ) (v : View) (t : ℕ) (h : Header) (p : ℕ) (w r : Walk) → r ≡ descend l v t h p w → Keeps v r
 unfolding descend counted
 descend-keeps l v t h p w r is =
-    subst (λ (x : Walk). Keeps v (w .entered + 1) x) (sym is) (down-keeps l v t h p (pick l t (p + childAt 0) 0 (h .children) 0) (w .entered + 1) (counted w) (omega arith))
+    subst (Keeps v) (sym is) (down-keeps l v t h p (pick l t (p + childAt 0) 0 (h .children) 0) (counted w))
 
-inside-keeps : (l : List ℕ) (v : View) (t : ℕ) (h : Header) (p : ℕ) (w : Walk) → Keeps v (w .entered + 1) (inside l v t h p w)
+inside-keeps : (l : List ℕ) (v : View) (t : ℕ) (h : Header) (p : ℕ) (w : Walk) → Keeps v (inside l v t h p w)
 unfolding inside
 inside-keeps l v t h p w = go (allSound l (v .attributes) h (p + entryAt (v .shape) 0) (h .intervals) true)
   where
-    go : (a : Bool) → Keeps v (w .entered + 1) (cond a (descend l v t h p w) (ended w R6 (w .place)))
+    go : (a : Bool) → Keeps v (cond a (descend l v t h p w) (ended w R6 (w .place)))
     go true = descend-keeps l v t h p w (descend l v t h p w) refl
-    go false = ended-keeps v w (w .entered + 1) R6 (w .place) (omega arith)
+    go false = ended-keeps v w R6 (w .place)
 
-pub step-keeps : (l : List ℕ) (v : View) (t level : ℕ) (w r : Walk) → r ≡ step l v t level w → Keeps v (w .entered + 1) r
+pub step-keeps : (l : List ℕ) (v : View) (t level : ℕ) (w r : Walk) → r ≡ step l v t level w → Keeps v r
 unfolding step enter
-step-keeps l v t level w r is = subst (λ (x : Walk). Keeps v (w .entered + 1) x) (sym is) (go (kept (broken v w level (readHeader l (placeOf v (w .place))))))
+step-keeps l v t level w r is = subst (Keeps v) (sym is) (go (kept (broken v w level (readHeader l (placeOf v (w .place))))))
   where
-    go : (a : Bool) → Keeps v (w .entered + 1) (cond a (inside l v t (readHeader l (placeOf v (w .place))) (placeOf v (w .place)) w) (ended w (broken v w level (readHeader l (placeOf v (w .place)))) (w .place)))
+    go : (a : Bool) → Keeps v (cond a (inside l v t (readHeader l (placeOf v (w .place))) (placeOf v (w .place)) w) (ended w (broken v w level (readHeader l (placeOf v (w .place)))) (w .place)))
     go true = inside-keeps l v t (readHeader l (placeOf v (w .place))) (placeOf v (w .place)) w
-    go false = ended-keeps v w (w .entered + 1) (broken v w level (readHeader l (placeOf v (w .place)))) (w .place) (omega arith)
+    go false = ended-keeps v w (broken v w level (readHeader l (placeOf v (w .place)))) (w .place)
+
+-- ---- a way down counts the node that it leaves
+
+child-entered : (l : List ℕ) (v : View) (t end : ℕ) (c : Child) (w : Walk) → child l v t end c w .entered ≡ w .entered
+unfolding child onward ended
+child-entered l v t end c w = go (ltb (c .sequence .0) (v .used)) (holds t (readHeader l (placeOf v (c .sequence))))
+  where
+    go : (a b : Bool) → cond a (cond b (onward w c end) (ended w Kept (w .place))) (ended w R1 (c .sequence)) .entered ≡ w .entered
+    go true true = refl
+    go true false = refl
+    go false b = refl
+
+down-entered : (l : List ℕ) (v : View) (t : ℕ) (h : Header) (p k : ℕ) (w : Walk) → downTo l v t h p k w .entered ≡ w .entered
+unfolding downTo ended
+down-entered l v t h p k w = go (eqb k 0)
+  where
+    go : (a : Bool) → cond a (ended w Kept (w .place)) (child l v t (h .end) (readChild l (p + childAt (k - 1))) w) .entered ≡ w .entered
+    go true = refl
+    go false = child-entered l v t (h .end) (readChild l (p + childAt (k - 1))) w
+
+pub descend-entered : (l : List ℕ) (v : View) (t : ℕ) (h : Header) (p : ℕ) (w : Walk) → descend l v t h p w .entered ≡ w .entered + 1
+unfolding descend counted
+descend-entered l v t h p w = down-entered l v t h p (pick l t (p + childAt 0) 0 (h .children) 0) (counted w)
 
 -- ---- the node at which the walk stands, its header h at byte p: R1 to R5, then R6, then down
 
@@ -153,7 +173,7 @@ module _ (l : List ℕ) (v : View) (t : ℕ) where
   walk-stop zero w e = refl
   walk-stop (suc n) w e = sym (ap (λ (b : Bool). cond b (walk l v t n (step l v t n w)) w) e)
 
-  pub walk-on : (n : ℕ) (w : Walk) → w .go ≡ true → walk l v t (suc n) w ≡ walk l v t n (step l v t n w)
+  walk-on : (n : ℕ) (w : Walk) → w .go ≡ true → walk l v t (suc n) w ≡ walk l v t n (step l v t n w)
   unfolding walk
   walk-on n w going = ap (λ (b : Bool). cond b (walk l v t n (step l v t n w)) w) going
 

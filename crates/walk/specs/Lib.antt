@@ -2,4 +2,3 @@ pub mod View
 pub mod Rules
 pub mod Since
 pub mod Walk
-pub mod Way

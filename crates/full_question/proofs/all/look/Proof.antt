@@ -1,16 +1,14 @@
 -- The loop looks at what is left to look at. Assumes nothing.
 use borrow.Author.Needs.{needs}
-use Prim.Native.Nat.{ℕ, _+_, _-_, _*_, _≤_}
+use Prim.Native.Nat.{_+_, _-_, _*_, _≤_}
 use mathlib.Core.Path.{_≡_, refl, sym, ap, _∙_}
-use mathlib.Core.Bool.{Bool, true, _&&_}
+use mathlib.Core.Bool.{true, _&&_}
 use native.Mathlib.Nat.{sub-zero}
 use native.Mathlib.Omega.{arith}
 use lib.Dec.{leb, eqb}
 use lib.ListN.{length}
 use borrow.Author.Tests.{not-false}
-use Rattle.layout.specs.declared.Entry.{Entry}
 use Rattle.layout.specs.Layout.{entrySize}
-use Rattle.walk.specs.Since.{entryFits}
 use Rattle.walk.specs.Walk.{allSound}
 use Rattle.full_question.specs.Table.{noteAll, once}
 use Rattle.walk.proofs.Broken.{false-is}
@@ -34,16 +32,11 @@ abbrev μ-loop : tie.MeasureT-loop
 end-fits : (c : tie.After-read-entry Inv-loop μ-loop) → c .read-entry .result .end ≤ 18446744073709551615
 end-fits c = search needs
 
--- the node's end, counted from its start on
-spanned : (a start end : ℕ) (e : Entry) (f : Bool) → start ≤ end → f ≡ entryFits a start end e → f ≡ entryFits a start (start + (end - start)) e
-spanned a start end e f le is = is ∙ ap (λ (x : ℕ). entryFits a start x e) (omega arith)
-
 returns : tie.Need-returns Inv-loop μ-loop
 returns c =
     let k = c .before .before in
     let inv = k .before .before .loop .inv in
-    let a = k .before .before .before .before .before in
-    (both-first _ _ (inv .3 ∙ sound-stop _ _ _ _ _ _ _ _ _ (k .read-entry .ensures) (a .pre .3) (spanned _ _ _ _ _ (a .pre .3) (c .before .lies .ensures)) (k .before .loop-test .taken) (c .if1 .taken)), λ e. absurd (false-is e))
+    (both-first _ _ (inv .3 ∙ sound-stop _ _ _ _ _ _ _ _ _ (k .read-entry .ensures) (c .before .lies .ensures) (k .before .loop-test .taken) (c .if1 .taken)), λ e. absurd (false-is e))
 
 note-requires : tie.Need-note-requires Inv-loop μ-loop
 note-requires c κs =
@@ -80,7 +73,7 @@ loop-again c =
       omega arith,
       omega arith,
       ap length notes ∙ length-note _ _ _ _ ∙ inv .2,
-      inv .3 ∙ sound-turn _ _ _ _ _ _ _ _ _ e (a .pre .3) (spanned _ _ _ _ _ (a .pre .3) lies) lt _ (states-more (l .nulls) (j .nulls .result) (l .kinds) (j .before .kinds .result) (k .read-entry .result) (j .before .kinds .ensures) (j .nulls .ensures)) (f .if1 .left),
+      inv .3 ∙ sound-turn _ _ _ _ _ _ _ _ _ e lies lt _ (states-more (l .nulls) (j .nulls .result) (l .kinds) (j .before .kinds .result) (k .read-entry .result) (j .before .kinds .ensures) (j .nulls .ensures)) (f .if1 .left),
       inv .4 ∙ all-turn _ _ _ _ _ _ _ _ e notes lt,
       once-first _ _ _ _ _ (inv .5) (known-quark _ _ _ _ _ lies (f .if1 .left)) (omega arith) (omega arith) _ _ told (n .note .ensures .0) _ (c .if2 .left) notes,
     )
@@ -97,7 +90,7 @@ look-spec =
     (tie.spec
     Inv-loop
     μ-loop
-    (λ c. (omega arith, omega arith, refl, rw sub-zero, rw sub-zero, c .before .before .pre .4))
+    (λ c. (omega arith, omega arith, refl, rw sub-zero, rw sub-zero, c .before .before .pre .3))
     (λ c κs. search needs)
     (λ c κs. search needs)
     (λ c. c .before .before .before .before .loop .inv .2)

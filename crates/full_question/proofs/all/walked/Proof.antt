@@ -10,17 +10,17 @@ use Rattle.full_question.proofs.all.walked.Tie as tie
 walked-in-requires : tie.Need-walked-in-requires
 walked-in-requires c κs =
     let a = c .before .before .before .before .before .before .before in
-    (a .pre .0, a .pre .1, a .pre .2, omega arith, λ q h. getD-replicate {A = ℕ} 64 q 0 0 (omega (arith, c .before .before .if1 .taken)))
+    (a .pre .0, refl, a .pre .1, a .pre .2, omega arith, λ q h. getD-replicate {A = ℕ} 64 q 0 0 (omega (arith, c .before .before .if1 .taken)))
 
 walked-in-requires-2 : tie.Need-walked-in-requires-2
 walked-in-requires-2 c κs =
     let a = c .before .before .before .before .before .before .before .before .before in
-    (a .pre .0, a .pre .1, a .pre .2, omega arith, λ q h. getD-replicate {A = ℕ} 512 q 0 0 (omega (arith, c .before .before .if2 .taken)))
+    (a .pre .0, refl, a .pre .1, a .pre .2, omega arith, λ q h. getD-replicate {A = ℕ} 512 q 0 0 (omega (arith, c .before .before .if2 .taken)))
 
 walked-in-requires-3 : tie.Need-walked-in-requires-3
 walked-in-requires-3 c κs =
     let a = c .before .before .before .before .before .before .before .before .before in
-    (a .pre .0, a .pre .1, a .pre .2, omega (arith, a .pre .0 .attributes), λ q h. getD-replicate {A = ℕ} 4096 q 0 0 (omega (arith, a .pre .0 .attributes)))
+    (a .pre .0, refl, a .pre .1, a .pre .2, omega (arith, a .pre .0 .attributes), λ q h. getD-replicate {A = ℕ} 4096 q 0 0 (omega (arith, a .pre .0 .attributes)))
 
 pub walked-spec : {M : Type 1} → statement M
 walked-spec =

@@ -2,12 +2,14 @@
 use borrow.Author.Needs.{needs}
 use Prim.Native.Nat.{ℕ, _+_, _-_, _*_, _≤_, _<_}
 use mathlib.Core.Logic.{⊎-elim}
-use mathlib.Core.Path.{_≡_, sym, _∙_}
-use mathlib.Core.Bool.{true, _&&_}
+use mathlib.Core.Path.{_≡_, sym, ap, _∙_}
+use mathlib.Core.Bool.{Bool, true, _&&_}
 use native.Mathlib.Nat.{sub-zero}
 use native.Mathlib.Omega.{arith}
 use lib.Dec.{leb, eqb}
+use Rattle.layout.specs.declared.Entry.{Entry}
 use Rattle.layout.specs.Layout.{entrySize}
+use Rattle.walk.specs.Since.{entryFits}
 use Rattle.walk.specs.Walk.{allSound}
 use Rattle.questions.specs.Found.{noted, look}
 use Rattle.walk.proofs.Broken.{false-is}
@@ -33,12 +35,16 @@ left c = omega (arith, c .loop-test .taken)
 end-fits : (c : tie.After-read-entry Inv-loop μ-loop) → c .read-entry .result .end ≤ 18446744073709551615
 end-fits c = search needs
 
+-- the node's span leads from its start to its end
+spanned : (a start end : ℕ) (e : Entry) (f : Bool) → start ≤ end → f ≡ entryFits a start (start + (end - start)) e → f ≡ entryFits a start end e
+spanned a start end e f le is = is ∙ ap (λ (x : ℕ). entryFits a start x e) (omega arith)
+
 returns : tie.Need-returns Inv-loop μ-loop
 returns c =
     let k = c .before .before in
     let inv = k .before .before .loop .inv in
     let a = k .before .before .before .before .before .before in
-    (sym (inv .3 ∙ sound-stop _ _ _ _ _ _ _ _ _ (k .read-entry .ensures) (a .pre .2) (c .before .fits2 .ensures) (left (k .before)) (c .if1 .taken)), λ e. absurd (false-is e))
+    (sym (inv .3 ∙ sound-stop _ _ _ _ _ _ _ _ _ (k .read-entry .ensures) (spanned _ _ _ _ _ (a .pre .2) (c .before .fits2 .ensures)) (left (k .before)) (c .if1 .taken)), λ e. absurd (false-is e))
 
 loop-again : tie.Need-loop-again Inv-loop μ-loop
 loop-again c =
@@ -58,7 +64,7 @@ loop-again c =
       l .inv .0 + 1,
       omega arith,
       omega arith,
-      l .inv .3 ∙ sound-turn _ _ _ _ _ _ _ _ _ e (a .pre .2) (f .before .fits2 .ensures) lt _ (states-more (l .nulls) (j .nulls .result) (l .kinds) (j .before .kinds .result) (k .read-entry .result) (j .before .kinds .ensures) (j .nulls .ensures)) (f .if1 .left),
+      l .inv .3 ∙ sound-turn _ _ _ _ _ _ _ _ _ e (spanned _ _ _ _ _ (a .pre .2) (f .before .fits2 .ensures)) lt _ (states-more (l .nulls) (j .nulls .result) (l .kinds) (j .before .kinds .result) (k .read-entry .result) (j .before .kinds .ensures) (j .nulls .ensures)) (f .if1 .left),
       l .inv .4 ∙ look-turn _ _ _ _ _ _ _ _ _ e is lt,
     )
 

@@ -11,14 +11,15 @@ use Rattle.walk.specs.Walk.{counted, descend}
 use Rattle.walk.proofs.Room.{header-room, children-room, entries-room, nodes-small}
 use Rattle.walk.proofs.Broken.{Fitting, broken-fits}
 use Rattle.walk.proofs.Ways.{descend-done}
+use Rattle.walk.proofs.Turns.{Reading, walking-ends, walking-kept, walking-bad, walking-past, walking-unsound}
 use Rattle.questions.proofs.Finds.{near-found}
-use Rattle.questions.proofs.Walking.{Walking, Reading, walking-root, walking-ends, walking-kept, walking-finds, walking-bad, walking-past, walking-unsound, walking-next, walking-last}
+use Rattle.questions.proofs.Walking.{Finding, finding-root, finding-ends, finding-next, finding-last}
 use Rattle.questions.proofs.Singles.{walked-damaged, walked-none, walked-told}
 use Rattle.questions.proofs.one.walked.Statement.{statement}
 use Rattle.questions.proofs.one.walked.Tie as tie
 
 abbrev Inv-loop : tie.InvT-loop
-Inv-loop v t quark nodes w₀ level₀ s₀ w level s = Walking nodes v (quark .0) t w level s
+Inv-loop v t quark nodes w₀ level₀ s₀ w level s = Finding nodes v (quark .0) t w level s
 
 abbrev μ-loop : tie.MeasureT-loop
 μ-loop v t quark nodes w₀ level₀ s₀ w level s = level
@@ -38,10 +39,10 @@ abbrev way : tie.After-look Inv-loop μ-loop → tie.After-down-to Inv-loop μ-l
 way c = c .before .before .before .before .before
 
 reading : (c : tie.After-kept Inv-loop μ-loop) → let a = begun (turn c) .args in let l = turn c .before .loop in
-    Reading (a .nodes .now) (a .v) (a .quark .0) (a .t) (l .w) (l .level) (l .s) (c .before .before .before .stands-at .result) (c .before .before .read-header .result) (c .before .broken .result) (c .kept .result)
+    Reading (a .nodes .now) (a .v) (a .t) (l .w) (l .level) (c .before .before .before .stands-at .result) (c .before .before .read-header .result) (c .before .broken .result) (c .kept .result)
 reading c = record {
-  walking = turn c .before .loop .inv;
-  some = turn c .loop-test .taken;
+  walking = turn c .before .loop .inv .walking;
+  left = turn c .loop-test .taken;
   at = c .before .before .before .stands-at .ensures .0;
   reads = c .before .before .read-header .ensures;
   is = c .before .broken .ensures;
@@ -68,21 +69,21 @@ lies c =
 near : (c : tie.Else5 Inv-loop μ-loop) → let k = c .before .before in (0 < k .before .loop .s) × (k .before .loop .s + 31 ≤ length (k .before .before .before .before .before .args .nodes .now))
 near c =
     let k = c .before .before in
-    near-found _ _ (k .before .before .before .before .before .pre) _ _ _ _ (walking-finds _ _ _ _ _ _ _ (k .before .loop .inv) (k .loop-test .left)) (c .before .one .ensures) (c .if5 .left)
+    near-found _ _ (k .before .before .before .before .before .pre) _ _ _ _ (finding-ends _ _ _ _ _ _ _ (k .before .loop .inv) (k .loop-test .left)) (c .before .one .ensures) (c .if5 .left)
 
 -- ---- the needs
 
 loop-holds : tie.Need-loop-holds Inv-loop μ-loop
-loop-holds c = walking-root _ _ _ _ _ (c .before .before .before .pre) (c .before .root .ensures)
+loop-holds c = finding-root _ _ _ _ _ (c .before .before .before .pre) (c .before .root .ensures)
 
 stands-at-requires : tie.Need-stands-at-requires Inv-loop μ-loop
-stands-at-requires c κs = let p = begun c .pre in (omega (arith, c .before .loop .inv .used (c .loop-test .taken), p .used), p .shaped)
+stands-at-requires c κs = let p = begun c .pre in (omega (arith, c .before .loop .inv .walking .used (c .loop-test .taken), p .used), p .shaped)
 
 read-header-requires : tie.Need-read-header-requires Inv-loop μ-loop
 read-header-requires c κs = let a = begun (c .before) in omega (arith, c .stands-at .ensures .1, a .pre .room, header-room (a .args .v .shape))
 
 returns : tie.Need-returns Inv-loop μ-loop
-returns c = walked-damaged _ _ _ _ _ (walking-bad _ _ _ _ _ _ _ _ _ _ _ (reading (c .before .before)) (c .before .if1 .taken)) (c .refused .ensures)
+returns c = walked-damaged _ _ _ _ _ (walking-bad _ _ _ _ _ _ _ _ _ (reading (c .before .before)) (c .before .if1 .taken)) (c .refused .ensures)
 
 add-pick : tie.Need-add-pick Inv-loop μ-loop
 add-pick c =
@@ -97,7 +98,7 @@ pick-requires c κs =
     (omega (arith, a .pre .shaped .fifty), omega (arith, c .before .child-at .ensures, lies d .0, children-room (a .args .v .shape) _ few))
 
 add-c : tie.Need-add-c Inv-loop μ-loop
-add-c c = let i = turn (c .before .before .before .before .before) in omega (arith, i .before .loop .inv .few)
+add-c c = let i = turn (c .before .before .before .before .before) in omega (arith, i .before .loop .inv .walking .few)
 
 down-to-requires : tie.Need-down-to-requires Inv-loop μ-loop
 down-to-requires c κs =
@@ -108,7 +109,7 @@ returns-2 : tie.Need-returns-2 Inv-loop μ-loop
 returns-2 c =
     let g = c .before .before .before in
     let bad = sym (c .before .before .kept2 .ensures) ∙ not-true _ (c .before .if2 .taken) in
-    walked-damaged _ _ _ _ _ (walking-past _ _ _ _ _ _ _ _ _ _ _ (reading (tested g .before)) (tested g .if1 .left) _ (down g) bad) (c .refused2 .ensures)
+    walked-damaged _ _ _ _ _ (walking-past _ _ _ _ _ _ _ _ _ (reading (tested g .before)) (tested g .if1 .left) _ (down g) bad) (c .refused2 .ensures)
 
 add-first : tie.Need-add-first Inv-loop μ-loop
 add-first c =
@@ -127,7 +128,7 @@ returns-3 c =
     let k = c .before .before .before in
     let e = k .before .before in
     let g = way k in
-    walked-damaged _ _ _ _ _ (walking-unsound _ _ _ _ _ _ _ _ _ _ _ (reading (tested g .before)) (tested g .if1 .left) _ _ (e .entry-at .ensures) (k .look .ensures .0) (c .before .if3 .taken)) (c .refused3 .ensures)
+    walked-damaged _ _ _ _ _ (walking-unsound _ _ _ _ _ _ _ _ _ (reading (tested g .before)) (tested g .if1 .left) _ _ (e .entry-at .ensures) (k .look .ensures .0) (c .before .if3 .taken)) (c .refused3 .ensures)
 
 loop-less : tie.Need-loop-less Inv-loop μ-loop
 loop-less c = omega (arith, turn (tested (way (c .before .before .before .before)) .before) .loop-test .taken)
@@ -138,7 +139,7 @@ loop-again c =
     let e = k .before .before in
     let g = way k in
     let well = sym (e .before .before .kept2 .ensures) ∙ not-false _ (e .before .if2 .left) in
-    walking-last _ _ _ _ _ _ _ _ _ _ _ (reading (tested g .before)) (tested g .if1 .left) _ _ (e .entry-at .ensures) (k .look .ensures .0) (c .before .before .if3 .left) _ (k .look .ensures .1) _ (down g) well (not-true _ (c .if4 .taken))
+    finding-last _ _ _ _ _ _ _ (turn (tested g .before) .before .loop .inv) _ _ _ _ (reading (tested g .before)) (tested g .if1 .left) _ _ (e .entry-at .ensures) (k .look .ensures .0) (c .before .before .if3 .left) _ (k .look .ensures .1) _ (down g) well (not-true _ (c .if4 .taken))
 
 loop-less-2 : tie.Need-loop-less-2 Inv-loop μ-loop
 loop-less-2 c = omega (arith, turn (tested (way (c .before .before .before .before)) .before) .loop-test .taken)
@@ -149,7 +150,7 @@ loop-again-2 c =
     let e = k .before .before in
     let g = way k in
     let well = sym (e .before .before .kept2 .ensures) ∙ not-false _ (e .before .if2 .left) in
-    walking-next _ _ _ _ _ _ _ _ _ _ _ (reading (tested g .before)) (tested g .if1 .left) _ _ (e .entry-at .ensures) (k .look .ensures .0) (c .before .before .if3 .left) _ (k .look .ensures .1) _ (down g) well (not-false _ (c .if4 .left))
+    finding-next _ _ _ _ _ _ _ (turn (tested g .before) .before .loop .inv) _ _ _ _ (reading (tested g .before)) (tested g .if1 .left) _ _ (e .entry-at .ensures) (k .look .ensures .0) (c .before .before .if3 .left) _ (k .look .ensures .1) _ (down g) well (not-false _ (c .if4 .left))
 
 returns-4 : tie.Need-returns-4 Inv-loop μ-loop
 returns-4 c =
@@ -157,7 +158,7 @@ returns-4 c =
     let k = o .before in
     let inv = k .before .loop .inv in
     let none = k .loop-test .left in
-    walked-none _ _ _ _ _ _ _ (walking-kept _ _ _ _ _ _ _ inv none) (walking-finds _ _ _ _ _ _ _ inv none) (o .one .ensures) (c .before .if5 .taken) (c .refused4 .ensures)
+    walked-none _ _ _ _ _ _ _ (walking-kept _ _ _ _ _ (inv .walking) none) (finding-ends _ _ _ _ _ _ _ inv none) (o .one .ensures) (c .before .if5 .taken) (c .refused4 .ensures)
 
 sub-read-entry : tie.Need-sub-read-entry Inv-loop μ-loop
 sub-read-entry c = let n = near c in omega arith
@@ -171,8 +172,8 @@ returns-5 c =
     let k = o .before in
     let inv = k .before .loop .inv in
     let none = k .loop-test .left in
-    walked-told _ _ _ _ _ _ _ (walking-kept _ _ _ _ _ _ _ inv none) (walking-finds _ _ _ _ _ _ _ inv none) (o .one .ensures) _ _ (c .before .if5 .left)
-    (ap (λ (w : Walk). w .entered) (sym (walking-ends _ _ _ _ _ _ _ inv none))) (c .read-entry .ensures) refl
+    walked-told _ _ _ _ _ _ _ (walking-kept _ _ _ _ _ (inv .walking) none) (finding-ends _ _ _ _ _ _ _ inv none) (o .one .ensures) _ _ (c .before .if5 .left)
+    (ap (λ (w : Walk). w .entered) (sym (walking-ends _ _ _ _ _ (inv .walking) none))) (c .read-entry .ensures) refl
 
 pub walked-spec : {M : Type 1} → statement M
 walked-spec =
