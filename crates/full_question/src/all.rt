@@ -15,7 +15,7 @@ ghost use Prim.Native.Nat.{ℕ, _+_, _*_, _/_, _≤_, _<_};
 ghost use lib.Dec.{ltb, eqb};
 ghost use lib.ListN.{length, getD};
 ghost use lib.Seq.{sets};
-ghost use Rattle.layout.specs.Layout.{entrySize};
+ghost use Rattle.layout.specs.Layout.{entrySize, entryName};
 ghost use Rattle.record.specs.Record.{recordOf};
 ghost use Rattle.walk.specs.View.{Roomy};
 ghost use Rattle.walk.specs.Since.{reaches};
@@ -180,6 +180,19 @@ fn entry_for(nodes: &[u8], table: &[u8], q: u32, s: u32) -> Entry
     layout::read_entry(nodes, (s - 1) as usize)
 }
 
+// Its quark and kind as one word.
+fn name_for(nodes: &[u8], table: &[u8], q: u32, s: u32) -> u64
+    requires { ⌜ Readable (now nodes) (now table) q s ⌝ }
+    ensures { λ r. ⌜ r ≡ entryName (entryFor (now (nodes .entry)) (now (table .entry)) q s) ⌝ }
+{
+    if s == ONGOING {
+        let o = transient::read_ongoing(table, Quark(q));
+        return q as u64 + 4294967296 * (o.kind as u64);
+    }
+    layout::read_name(nodes, (s - 1) as usize)
+}
+
+// The first word of an entry is made in both branches by itself: so it comes out whole, and an entry is four stores instead of seven.
 fn write_entries(nodes: &[u8], table: &[u8], found: &[u32], answer: &mut [u8], at: usize, n: u32)
     requires { ⌜ (n ≤ length (now found)) × (at + entrySize * n ≤ length (now answer)) × ((q : ℕ) → q < n → Readable (now nodes) (now table) q (getD (now found) q 0)) ⌝ }
     ensures { λ _. ⌜ now (answer .exit) ≡ sets (now (answer .entry)) at (entriesFrom (now (nodes .entry)) (now (table .entry)) (now (found .entry)) 0 n) ⌝ }
@@ -189,7 +202,8 @@ fn write_entries(nodes: &[u8], table: &[u8], found: &[u32], answer: &mut [u8], a
     while i < n {
         let q = i as usize;
         let e = entry_for(nodes, table, i, found[q]);
-        layout::put_entry(answer, p, e);
+        let name = name_for(nodes, table, i, found[q]);
+        layout::put_named(answer, p, name, e);
         p += layout::ENTRY;
         i += 1;
     }

@@ -4,7 +4,7 @@ use mathlib.Core.Path.{_≡_, ap, _∙_}
 use mathlib.Core.List.{List, _++_, append-assoc}
 use native.Mathlib.Nat.{suc-mul, mul-le-mul-right}
 use native.Mathlib.Omega.{arith}
-use lib.ListN.{length, replicate, length-append}
+use lib.ListN.{length, getD, replicate, length-append}
 use lib.Seq.{sets}
 use mir.Syntax.{w64}
 use mir.Val.{toZ, ofZ}
@@ -16,7 +16,7 @@ use Rattle.layout.specs.declared.Shape.{Shape}
 use Rattle.layout.specs.declared.Header.{Header}
 use Rattle.layout.specs.declared.Child.{Child}
 use Rattle.layout.specs.declared.Entry.{Entry}
-use Rattle.layout.specs.Layout.{headerSize, childSize, entrySize, nodeSize, childAt, entryAt, bounds, counts, headerBytes, childBytes, entryBytes, readHeader, readChild, readEntry}
+use Rattle.layout.specs.Layout.{headerSize, childSize, entrySize, nodeSize, childAt, entryAt, bounds, counts, headerBytes, childBytes, entryBytes, entryName, readHeader, readChild, readEntry}
 
 -- ---- lengths
 
@@ -104,19 +104,21 @@ child-put l l₁ l₂ at c p₁ p₂ =
     cc e
 
 -- quark, kind and three zero bytes are put as one number of eight bytes
-pub entry-put : (l l₁ l₂ l₃ l₄ : List ℕ) (at v : ℕ) (x : Entry)
+pub entry-put : (l l₁ l₂ l₃ l₄ : List ℕ) (at n v : ℕ) (x : Entry)
     → x .quark .0 < 2 ^ 32
     → x .kind < 2 ^ 8
-    → l₁ ≡ sets l at (le 8 (x .quark .0 + 4294967296 * x .kind))
+    → n ≡ entryName x
+    → l₁ ≡ sets l at (le 8 n)
     → l₂ ≡ sets l₁ (at + 8) (le 8 (x .start))
     → l₃ ≡ sets l₂ (at + 16) (le 8 (x .end))
     → v ≡ ofZ w64 (x .value)
     → l₄ ≡ sets l₃ (at + 24) (le 8 v)
     → l₄ ≡ sets l at (entryBytes x)
 unfolding entryBytes
-entry-put l l₁ l₂ l₃ l₄ at v x f g p₁ p₂ p₃ q p₄ =
-    let n : ℕ = x .quark .0 + 4294967296 * x .kind in
-    let w : le 8 n ≡ le 4 (x .quark .0) ++ (le 1 (x .kind) ++ le 3 0) = le-join 4 4 (x .quark .0) (x .kind) f ∙ ap (λ (z : List ℕ). le 4 (x .quark .0) ++ z) (le-wide 1 3 (x .kind) g) in
+entry-put l l₁ l₂ l₃ l₄ at n v x f g m p₁ p₂ p₃ q p₄ =
+    let w : le 8 n ≡ le 4 (x .quark .0) ++ (le 1 (x .kind) ++ le 3 0) =
+    ap (le 8) m ∙ le-join 4 4 (x .quark .0) (x .kind) f ∙ ap (λ (z : List ℕ). le 4 (x .quark .0) ++ z) (le-wide 1 3 (x .kind) g)
+    in
     let rest : List ℕ = le 8 (x .start) ++ (le 8 (x .end) ++ le 8 (ofZ w64 (x .value))) in
     let d : entryBytes x ≡ le 8 n ++ rest = rw w (simp append-assoc) in
     let j : at + 8 + 8 ≡ at + 16 = omega arith in
@@ -153,3 +155,8 @@ pub entry-read : (l : List ℕ) (at q k a b v : ℕ) (z y : ℤ)
     → y ≡ z
     → record { quark = record { 0 = q }; kind = k; start = a; end = b; value = y } ≡ readEntry l at
 entry-read l at q k a b v z y p₁ p₂ p₃ p₄ p₅ p₆ p₇ = cc
+
+-- its quark and kind are the number in its first five bytes
+pub name-read : (l : List ℕ) (at n : ℕ) → n ≡ num l at 5 → n ≡ entryName (readEntry l at)
+unfolding num
+name-read l at n p = let e : suc (suc (suc (suc at))) ≡ at + 4 = omega arith in omega (arith, p, ap (λ (k : ℕ). getD l k 0) e)

@@ -59,6 +59,10 @@ childBytes c = le 4 (c .sequence .0) ++ le 8 (c .start)
 unfoldable pub entryBytes : Entry → List ℕ
 entryBytes e = le 4 (e .quark .0) ++ (le 1 (e .kind) ++ (le 3 0 ++ (le 8 (e .start) ++ (le 8 (e .end) ++ le 8 (ofZ w64 (e .value))))))
 
+-- its quark and kind as one number, the quark in the lowest 32 bits
+abbrev pub entryName : Entry → ℕ
+entryName e = e .quark .0 + 4294967296 * e .kind
+
 -- ═══ The parts read, from index p of any bytes ═══
 
 abbrev pub readHeader : List ℕ → ℕ → Header

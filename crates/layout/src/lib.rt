@@ -6,7 +6,7 @@ ghost use Prim.Native.Nat.{_+_, _-_, _≤_};
 ghost use lib.ListN.{length, replicate};
 ghost use lib.Seq.{sets};
 ghost use Rattle.words.specs.Words.{le};
-ghost use Rattle.layout.specs.Layout.{headerSize, childSize, entrySize, nodeSize, childAt, entryAt, counts, headerBytes, childBytes, entryBytes, readHeader, readChild, readEntry, encode, newNode};
+ghost use Rattle.layout.specs.Layout.{headerSize, childSize, entrySize, nodeSize, childAt, entryAt, counts, headerBytes, childBytes, entryBytes, entryName, readHeader, readChild, readEntry, encode, newNode};
 
 // "A quark and a node's sequence number count separate things": a quark names an attribute, a sequence number a node.
 pub struct Quark(pub u32);
@@ -127,15 +127,23 @@ pub fn put_child(nodes: &mut [u8], at: usize, c: Child)
     words::put(nodes, at + 4, 8, c.start);
 }
 
+// Writes an interval entry at index at, whose quark and kind are at hand as one word: where the compiler sees the word made of the two, it stores them one by one and the zero bytes behind them by themselves.
+pub fn put_named(b: &mut [u8], at: usize, name: u64, e: Entry)
+    requires { ⌜ (at + entrySize ≤ length (now b)) × (name ≡ entryName e) ⌝ }
+    ensures { λ _. ⌜ now (b .exit) ≡ sets (now (b .entry)) at (entryBytes e) ⌝ }
+{
+    words::put(b, at, 8, name);
+    words::put(b, at + 8, 8, e.start);
+    words::put(b, at + 16, 8, e.end);
+    words::put(b, at + 24, 8, words::bits(e.value));
+}
+
 // Writes an interval entry at index at.
 pub fn put_entry(b: &mut [u8], at: usize, e: Entry)
     requires { ⌜ at + entrySize ≤ length (now b) ⌝ }
     ensures { λ _. ⌜ now (b .exit) ≡ sets (now (b .entry)) at (entryBytes e) ⌝ }
 {
-    words::put(b, at, 8, e.quark.0 as u64 + 4294967296 * (e.kind as u64));
-    words::put(b, at + 8, 8, e.start);
-    words::put(b, at + 16, 8, e.end);
-    words::put(b, at + 24, 8, words::bits(e.value));
+    put_named(b, at, e.quark.0 as u64 + 4294967296 * (e.kind as u64), e);
 }
 
 // Writes a header and zeros behind it, to the end of the node's stretch of size bytes.
@@ -208,4 +216,12 @@ pub fn read_entry(b: &[u8], at: usize) -> Entry
         end: words::get(b, at + 16, 8),
         value: words::signed(words::get(b, at + 24, 8)),
     }
+}
+
+// An entry's quark and kind as one word.
+pub fn read_name(b: &[u8], at: usize) -> u64
+    requires { ⌜ at + entrySize ≤ length (now b) ⌝ }
+    ensures { λ r. ⌜ r ≡ entryName (readEntry (now (b .entry)) at) ⌝ }
+{
+    words::get(b, at, 5)
 }

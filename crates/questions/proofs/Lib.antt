@@ -1,3 +1,3 @@
 pub mod Finds
-pub mod Walking
+pub mod Finding
 pub mod Singles

@@ -6,7 +6,7 @@ use native.Mathlib.Nat.{sub-zero}
 use native.Mathlib.Omega.{arith}
 use lib.ListN.{length}
 use lib.Seq.{sets, length-sets}
-use Rattle.layout.specs.Layout.{entrySize}
+use Rattle.layout.specs.Layout.{entrySize, entryName}
 use Rattle.full_question.specs.Table.{entriesFrom}
 use Rattle.full_question.proofs.Fulls.{entries-turn, entries-done}
 use Rattle.full_question.proofs.all.write_entries.Statement.{statement}
@@ -23,14 +23,22 @@ abbrev μ-loop : tie.MeasureT-loop
 entry-for-requires : tie.Need-entry-for-requires Inv-loop μ-loop
 entry-for-requires c κs = c .before .before .before .before .before .before .before .pre .2 (c .before .before .loop .i) (c .before .loop-test .taken)
 
+name-for-requires : tie.Need-name-for-requires Inv-loop μ-loop
+name-for-requires c κs = let t = c .before .before .before in t .before .before .before .before .before .before .pre .2 (t .before .loop .i) (t .loop-test .taken)
+
+put-named-requires : tie.Need-put-named-requires Inv-loop μ-loop
+put-named-requires c κs = (search needs, c .before .name-for .ensures ∙ ap entryName (sym (c .before .before .before .entry-for .ensures)))
+
 loop-again : tie.Need-loop-again Inv-loop μ-loop
 loop-again c =
     let w = c .before .before in
-    let inv = c .before .before .before .before .before .before .before .loop .inv in (
+    let e = w .before .before .before .before in
+    let t = e .before .before in
+    let inv = t .before .loop .inv in (
       omega arith,
       omega arith,
-      ap length (w .put-entry .ensures) ∙ simp length-sets (inv .2),
-      inv .3 ∙ entries-turn _ _ _ _ _ _ _ _ _ (c .before .before .before .before .entry-for .ensures) (w .put-entry .ensures) (c .before .before .before .before .before .before .loop-test .taken),
+      ap length (w .put-named .ensures) ∙ simp length-sets (inv .2),
+      inv .3 ∙ entries-turn _ _ _ _ _ _ _ _ _ (e .entry-for .ensures) (w .put-named .ensures) (t .loop-test .taken),
     )
 
 pub write-entries-spec : {M : Type 1} → statement M
@@ -44,7 +52,10 @@ write-entries-spec =
     (λ c. search needs)
     (λ c. search needs)
     entry-for-requires
-    (λ c κs. search needs)
+    (λ c. search needs)
+    (λ c. search needs)
+    name-for-requires
+    put-named-requires
     (λ c. search needs)
     (λ c. search needs)
     (λ c. search needs)

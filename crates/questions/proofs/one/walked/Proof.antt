@@ -13,7 +13,7 @@ use Rattle.walk.proofs.Broken.{Fitting, broken-fits}
 use Rattle.walk.proofs.Ways.{descend-done}
 use Rattle.walk.proofs.Turns.{Reading, walking-ends, walking-kept, walking-bad, walking-past, walking-unsound}
 use Rattle.questions.proofs.Finds.{near-found}
-use Rattle.questions.proofs.Walking.{Finding, finding-root, finding-ends, finding-next, finding-last}
+use Rattle.questions.proofs.Finding.{Finding, finding-root, finding-ends, finding-next, finding-last}
 use Rattle.questions.proofs.Singles.{walked-damaged, walked-none, walked-told}
 use Rattle.questions.proofs.one.walked.Statement.{statement}
 use Rattle.questions.proofs.one.walked.Tie as tie
