@@ -1,5 +1,7 @@
 pub mod Taken
 pub mod Plans
+pub mod Climbs
+pub mod Descents
 pub mod Carried
 pub mod Trials
 pub mod Stands

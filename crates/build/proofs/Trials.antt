@@ -23,7 +23,9 @@ use Rattle.settle.specs.Settle.{plan, lowest, taken, settle, planRefusal}
 use Rattle.build.specs.Feasible.{Feasible}
 use Rattle.build.specs.Trial.{Tried, riseOn, climbOn, descendOn, chainOn, placedOn, planned, tried}
 use Rattle.build.specs.Carried.{Alike, Climbing, Descending, Hanging, Landed}
-use Rattle.build.proofs.Carried.{rise-closes, rise-raises, raise-needs, landed, down-needs, chain-empty, climb-none, planned-firm, planned-alike, planned-long}
+use Rattle.build.proofs.Climbs.{rise-closes, rise-raises, raise-needs, climb-none}
+use Rattle.build.proofs.Descents.{down-needs, chain-empty}
+use Rattle.build.proofs.Carried.{landed, planned-firm, planned-alike, planned-long}
 use Rattle.build.proofs.Taken.{taken-room, taken-plan, taken-accepted}
 use Rattle.build.proofs.Plans.{feasible, then-nothing}
 

@@ -21,7 +21,9 @@ use Rattle.build.specs.Moves.{Held, held, Room, Standing, Turns, putHead
 use Rattle.build.specs.Write.{rise, climb, descend, stretch, chained, placed, written, closeAll}
 use Rattle.build.specs.Trial.{climbOn, descendOn}
 use Rattle.build.specs.Carried.{Climbing, Descending, Hanging, Landed}
-use Rattle.build.proofs.Carried.{climb-one, rise-climbing, make-needs, make-descending, descend-ends, chain-keeps, landed}
+use Rattle.build.proofs.Climbs.{climb-one, rise-climbing}
+use Rattle.build.proofs.Descents.{make-needs, make-descending, descend-ends, chain-keeps}
+use Rattle.build.proofs.Carried.{landed}
 use Rattle.build.proofs.Stands.{open-stands, length-head}
 use Rattle.build.proofs.Steps.{rise-history, rise-length, climb-history, climb-length, make-history, make-length, descend-history, descend-length, room-kept}
 

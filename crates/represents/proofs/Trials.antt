@@ -18,7 +18,7 @@ use Rattle.build.specs.Moves.{Held}
 use Rattle.build.specs.Write.{inserted}
 use Rattle.build.specs.Trial.{tried}
 use Rattle.build.specs.Carried.{Alike}
-use Rattle.build.proofs.Carried.{alike-over}
+use Rattle.build.proofs.Climbs.{alike-over}
 use Rattle.build.proofs.Inserted.{inserted-alike}
 use Rattle.build.proofs.Steps.{inserted-length}
 use Rattle.calls.specs.Finish.{trial, storedFrom}

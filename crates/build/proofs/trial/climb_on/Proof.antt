@@ -6,7 +6,7 @@ use Rattle.layout.specs.declared.Shape.{Shape}
 use Rattle.record.specs.Record.{recordOf}
 use Rattle.build.specs.Trial.{climbOn}
 use Rattle.build.specs.Carried.{Climbing}
-use Rattle.build.proofs.Carried.{climb-first, climb-next, climb-goes-on, climb-ends}
+use Rattle.build.proofs.Climbs.{climb-first, climb-next, climb-goes-on, climb-ends}
 use Rattle.build.proofs.trial.climb_on.Statement.{statement}
 use Rattle.build.proofs.trial.climb_on.Tie as tie
 

@@ -6,7 +6,7 @@ use Rattle.layout.specs.declared.Shape.{Shape}
 use Rattle.record.specs.Record.{recordOf}
 use Rattle.build.specs.Trial.{descendOn}
 use Rattle.build.specs.Carried.{Descending}
-use Rattle.build.proofs.Carried.{down-next, down-goes-on, down-ends}
+use Rattle.build.proofs.Descents.{down-next, down-goes-on, down-ends}
 use Rattle.build.proofs.Trials.{down-calls}
 use Rattle.build.proofs.trial.descend_on.Statement.{statement}
 use Rattle.build.proofs.trial.descend_on.Tie as tie
