@@ -6,19 +6,19 @@ use native.Mathlib.Omega.{arith}
 use lib.Dec.{ltb}
 use borrow.Author.Tests.{ltb-true, ltb-false}
 use Rattle.record.specs.Record.{History}
-use Rattle.record.specs.Levels.{intervalsAt, childrenAt, lastEndAt}
-use Rattle.record.specs.Moves.{withBranch, withLargest, stored, stretched}
-use Rattle.record.specs.Sound.{lastTime}
+use Rattle.record.specs.Levels.{intervals_at, children_at, last_end_at}
+use Rattle.record.specs.Moves.{with_branch, with_largest, stored, stretched}
+use Rattle.record.specs.Sound.{last_time}
 use Rattle.record.specs.Firm.{Firm, Long}
-use Rattle.record.proofs.Kept.{firm-stored, firm-stretched}
-use Rattle.record.proofs.Effects.{stored-long}
+use Rattle.record.proofs.Kept.{firm_stored, firm_stretched}
+use Rattle.record.proofs.Effects.{stored_long}
 use Rattle.settle.specs.declared.Plan.{Plan}
 use Rattle.settle.proofs.Ways.{both, root, chain}
 use Rattle.build.specs.Feasible.{Feasible}
-use Rattle.build.specs.Trial.{climbOn, descendOn, placedOn, planned}
+use Rattle.build.specs.Trial.{climb_on, descend_on, placed_on, planned}
 use Rattle.build.specs.Carried.{Alike, Climbing, Landed}
-use Rattle.build.proofs.Climbs.{alike-over, climb-firm, climb-alike, climb-long, climb-low, climb-within, climb-beyond}
-use Rattle.build.proofs.Descents.{descend-alike, descend-long, chain-firm}
+use Rattle.build.proofs.Climbs.{alike_over, climb_firm, climb_alike, climb_long, climb_low, climb_within, climb_beyond}
+use Rattle.build.proofs.Descents.{descend_alike, descend_long, chain_firm}
 
 -- ═══ A feasible plan after its climb ═══
 
@@ -62,14 +62,14 @@ module _ (h : History) (p : Plan) (f : Firm h) (can : Feasible h p) where
     at_level = omega (arith, can.climbs (omega arith))
 
     -- the level is the lowest; of its numbers these matter
-    land : (t u : ℕ) → (climbOn (suc n) h).top ≡ t → (climbOn (suc n) h).used ≡ u → p.level ≤ t
-        → (p.chain ≡ true → (childrenAt (climbOn (suc n) h).branch p.level < h.shape.c) × (u + p.level ≤ h.shape.n))
-        → (p.chain ≡ false → intervalsAt (climbOn (suc n) h).branch p.level < h.shape.k)
-        → Landed (climbOn (suc n) h) p
+    land : (t u : ℕ) → (climb_on (suc n) h).top ≡ t → (climb_on (suc n) h).used ≡ u → p.level ≤ t
+        → (p.chain ≡ true → (children_at (climb_on (suc n) h).branch p.level < h.shape.c) × (u + p.level ≤ h.shape.n))
+        → (p.chain ≡ false → intervals_at (climb_on (suc n) h).branch p.level < h.shape.k)
+        → Landed (climb_on (suc n) h) p
     land t u a b le grows keeps =
-        let g = climb-firm (suc n) h came in
-        let same : (climbOn (suc n) h).shape ≡ h.shape = (climb-alike (suc n) h).shape in
-        let l : p.level ≡ (climbOn (suc n) h).low = at_level ∙ sym (climb-low (suc n) h came) in
+        let g = climb_firm (suc n) h came in
+        let same : (climb_on (suc n) h).shape ≡ h.shape = (climb_alike (suc n) h).shape in
+        let l : p.level ≡ (climb_on (suc n) h).low = at_level ∙ sym (climb_low (suc n) h came) in
         record {
           firm = g;
           above = omega (arith, l);
@@ -84,41 +84,41 @@ module _ (h : History) (p : Plan) (f : Firm h) (can : Feasible h p) where
           here = λ e. rw same (keeps e);
         }
 
-    landed-within : p.level ≤ h.top → Landed (climbOn (suc n) h) p
-    landed-within le =
-        let w = climb-within (suc n) h (omega (arith, at_level)) in
+    landed_within : p.level ≤ h.top → Landed (climb_on (suc n) h) p
+    landed_within le =
+        let w = climb_within (suc n) h (omega (arith, at_level)) in
         land h.top h.used w.top w.used le
         (λ e. (rw w.children ((can.grows e).2 le), omega (arith, can.room, chain h.top p le e)))
         (λ e. rw w.intervals (can.keeps e le))
 
-    landed-beyond : h.top < p.level → Landed (climbOn (suc n) h) p
-    landed-beyond lt =
-        let b = climb-beyond n h (omega (arith, at_level, can.closes, some)) in
+    landed_beyond : h.top < p.level → Landed (climb_on (suc n) h) p
+    landed_beyond lt =
+        let b = climb_beyond n h (omega (arith, at_level, can.closes, some)) in
         let l : p.level ≡ h.top + 1 = omega (arith, at_level, can.closes, some) in
         land (h.top + 1) (h.used + 1) b.top b.used (omega arith)
         (λ e. (rw l (omega (arith, b.children, f.shaped.two)), omega (arith, can.room, both h.top p lt e)))
         (λ e. rw l (omega (arith, b.intervals, f.shaped.some)))
 
-    landed-up : Landed (climbOn (suc n) h) p
-    landed-up = go (ltb h.top p.level) refl
+    landed_up : Landed (climb_on (suc n) h) p
+    landed_up = go (ltb h.top p.level) refl
       where
-        go : (t : Bool) → ltb h.top p.level ≡ t → Landed (climbOn (suc n) h) p
-        go true e = landed-beyond (ltb-true _ _ e)
-        go false e = landed-within (ltb-false _ _ e)
+        go : (t : Bool) → ltb h.top p.level ≡ t → Landed (climb_on (suc n) h) p
+        go true e = landed_beyond (ltb-true _ _ e)
+        go false e = landed_within (ltb-false _ _ e)
 
-  climbed : Landed (climbOn p.closes h) p
-  unfolding climbOn
+  climbed : Landed (climb_on p.closes h) p
+  unfolding climb_on
   climbed = go p.closes refl
     where
-      go : (n : ℕ) → p.closes ≡ n → Landed (climbOn n h) p
+      go : (n : ℕ) → p.closes ≡ n → Landed (climb_on n h) p
       go zero e = stayed e
-      go (suc n) e = landed-up n e
+      go (suc n) e = landed_up n e
 
 -- S takes the interval's end
-stretch-landed : (h : History) (p : Plan) (e : ℕ) → e ≤ lastTime → Landed h p → Landed (stretched h e) p
-unfolding stretched withLargest
-stretch-landed h p e le k =
-    let f = firm-stretched h k.firm e le in
+stretch_landed : (h : History) (p : Plan) (e : ℕ) → e ≤ last_time → Landed h p → Landed (stretched h e) p
+unfolding stretched with_largest
+stretch_landed h p e le k =
+    let f = firm_stretched h k.firm e le in
     record {
       firm = f;
       above = k.above;
@@ -127,59 +127,59 @@ stretch-landed h p e le k =
       here = k.here;
     }
 
-pub landed : (h : History) (p : Plan) (e : ℕ) → Firm h → Feasible h p → e ≤ lastTime → Landed (stretched (climbOn p.closes h) e) p
-landed h p e f can le = stretch-landed (climbOn p.closes h) p e le (climbed h p f can)
+pub landed : (h : History) (p : Plan) (e : ℕ) → Firm h → Feasible h p → e ≤ last_time → Landed (stretched (climb_on p.closes h) e) p
+landed h p e f can le = stretch_landed (climb_on p.closes h) p e le (climbed h p f can)
 
 -- ═══ The whole ═══
 
-store-alike : (h : History) (l : ℕ) → Alike h (stored h l)
-unfolding stored withBranch
-store-alike h l = record { shape = refl; start = refl; latest = refl; attributes = refl; finished = refl }
+store_alike : (h : History) (l : ℕ) → Alike h (stored h l)
+unfolding stored with_branch
+store_alike h l = record { shape = refl; start = refl; latest = refl; attributes = refl; finished = refl }
 
-stretch-alike : (h : History) (e : ℕ) → Alike h (stretched h e)
-unfolding stretched withLargest
-stretch-alike h e = record { shape = refl; start = refl; latest = refl; attributes = refl; finished = refl }
+stretch_alike : (h : History) (e : ℕ) → Alike h (stretched h e)
+unfolding stretched with_largest
+stretch_alike h e = record { shape = refl; start = refl; latest = refl; attributes = refl; finished = refl }
 
 module _ (p : Plan) (h : History) where
-  placed-firm : Landed h p → Firm (placedOn p h)
-  unfolding placedOn
-  placed-firm k = go p.chain refl
+  placed_firm : Landed h p → Firm (placed_on p h)
+  unfolding placed_on
+  placed_firm k = go p.chain refl
     where
-      go : (t : Bool) → p.chain ≡ t → Firm (cond t (stored (descendOn (lastEndAt h.branch p.level + 1) p.level h) 0) (stored h p.level))
-      go true e = chain-firm h (lastEndAt h.branch p.level + 1) p.level (k.chain e)
-      go false e = firm-stored h k.firm p.level (k.here e)
+      go : (t : Bool) → p.chain ≡ t → Firm (cond t (stored (descend_on (last_end_at h.branch p.level + 1) p.level h) 0) (stored h p.level))
+      go true e = chain_firm h (last_end_at h.branch p.level + 1) p.level (k.chain e)
+      go false e = firm_stored h k.firm p.level (k.here e)
 
-  placed_alike : Alike h (placedOn p h)
-  unfolding placedOn
+  placed_alike : Alike h (placed_on p h)
+  unfolding placed_on
   placed_alike = go p.chain
     where
-      go : (t : Bool) → Alike h (cond t (stored (descendOn (lastEndAt h.branch p.level + 1) p.level h) 0) (stored h p.level))
+      go : (t : Bool) → Alike h (cond t (stored (descend_on (last_end_at h.branch p.level + 1) p.level h) 0) (stored h p.level))
       go true =
-          let a = lastEndAt h.branch p.level + 1 in
-          let g = descendOn a p.level h in
-          alike-over h g (stored g 0) (descend-alike a p.level h) (store-alike g 0)
-      go false = store-alike h p.level
+          let a = last_end_at h.branch p.level + 1 in
+          let g = descend_on a p.level h in
+          alike_over h g (stored g 0) (descend_alike a p.level h) (store_alike g 0)
+      go false = store_alike h p.level
 
-  placed-long : Long h.branch → Long (placedOn p h).branch
-  unfolding placedOn
-  placed-long l = go p.chain
+  placed_long : Long h.branch → Long (placed_on p h).branch
+  unfolding placed_on
+  placed_long l = go p.chain
     where
-      go : (t : Bool) → Long (cond t (stored (descendOn (lastEndAt h.branch p.level + 1) p.level h) 0) (stored h p.level)).branch
-      go true = let a = lastEndAt h.branch p.level + 1 in stored-long (descendOn a p.level h) 0 (descend-long a p.level h l)
-      go false = stored-long h p.level l
+      go : (t : Bool) → Long (cond t (stored (descend_on (last_end_at h.branch p.level + 1) p.level h) 0) (stored h p.level)).branch
+      go true = let a = last_end_at h.branch p.level + 1 in stored_long (descend_on a p.level h) 0 (descend_long a p.level h l)
+      go false = stored_long h p.level l
 
 module _ (p : Plan) (h : History) (e : ℕ) where
-  pub planned-long : Long h.branch → Long (planned p e h).branch
-  unfolding planned stretched withLargest
-  planned-long l = placed-long p (stretched (climbOn p.closes h) e) (climb-long p.closes h l)
+  pub planned_long : Long h.branch → Long (planned p e h).branch
+  unfolding planned stretched with_largest
+  planned_long l = placed_long p (stretched (climb_on p.closes h) e) (climb_long p.closes h l)
 
-  pub planned-firm : Firm h → Feasible h p → e ≤ lastTime → Firm (planned p e h)
+  pub planned_firm : Firm h → Feasible h p → e ≤ last_time → Firm (planned p e h)
   unfolding planned
-  planned-firm f can le = placed-firm p (stretched (climbOn p.closes h) e) (landed h p e f can le)
+  planned_firm f can le = placed_firm p (stretched (climb_on p.closes h) e) (landed h p e f can le)
 
-  pub planned-alike : Alike h (planned p e h)
+  pub planned_alike : Alike h (planned p e h)
   unfolding planned
-  planned-alike =
-      let g = climbOn p.closes h in
+  planned_alike =
+      let g = climb_on p.closes h in
       let s = stretched g e in
-      alike-over h g (placedOn p s) (climb-alike p.closes h) (alike-over g s (placedOn p s) (stretch-alike g e) (placed_alike p s))
+      alike_over h g (placed_on p s) (climb_alike p.closes h) (alike_over g s (placed_on p s) (stretch_alike g e) (placed_alike p s))

@@ -5,88 +5,88 @@ use native.Mathlib.Numerals.{add-one}
 use native.Mathlib.Omega.{arith}
 use lib.ListN.{set}
 use Rattle.record.specs.Record.{History}
-use Rattle.record.specs.Levels.{intervalsAt, childrenAt}
-use Rattle.record.specs.Moves.{levelNew, levelChild, withBranch, made, stored}
+use Rattle.record.specs.Levels.{intervals_at, children_at}
+use Rattle.record.specs.Moves.{level_new, level_child, with_branch, made, stored}
 use Rattle.record.specs.Firm.{Firm, Long}
-use Rattle.record.proofs.Kept.{firm-made, firm-stored}
-use Rattle.record.proofs.Effects.{made-long}
-use Rattle.build.specs.Trial.{descendOn}
+use Rattle.record.proofs.Kept.{firm_made, firm_stored}
+use Rattle.record.proofs.Effects.{made_long}
+use Rattle.build.specs.Trial.{descend_on}
 use Rattle.build.specs.Carried.{Alike, Descending, Hanging}
-use Rattle.build.proofs.Climbs.{set-most, alike-over}
+use Rattle.build.proofs.Climbs.{set_most, alike_over}
 
 module _ (h : History) (a n : ℕ) (d : Descending h (suc n)) where
-  pub make-needs : (n < 15) × (h.used < h.shape.n) × (h.used < 4294967295) × (childrenAt h.branch (n + 1) < h.shape.c) × (childrenAt h.branch (n + 1) < 65535)
-  make-needs =
+  pub make_needs : (n < 15) × (h.used < h.shape.n) × (h.used < 4294967295) × (children_at h.branch (n + 1) < h.shape.c) × (children_at h.branch (n + 1) < 65535)
+  make_needs =
       let f = d.firm in
-      let fewer : childrenAt h.branch (n + 1) < h.shape.c = rw add-one (d.fewer (omega arith)) in
+      let fewer : children_at h.branch (n + 1) < h.shape.c = rw add-one (d.fewer (omega arith)) in
       (omega (arith, d.low, f.ordered, f.top), omega (arith, d.room), omega (arith, d.room, f.shaped.nodes), fewer, omega (arith, fewer, f.shaped.fifty))
 
-  pub make-descending : Descending (made h a n) n
-  unfolding made withBranch levelNew levelChild
-  make-descending =
-      let k = make-needs in
+  pub make_descending : Descending (made h a n) n
+  unfolding made with_branch level_new level_child
+  make_descending =
+      let k = make_needs in
       record {
-        firm = firm-made h d.firm a n (omega (arith, d.low)) k.3 k.1;
+        firm = firm_made h d.firm a n (omega (arith, d.low)) k.3 k.1;
         low = refl;
-        fewer = λ x. omega (arith, set-most (set h.branch.children (n + 1) (childrenAt h.branch (n + 1) + 1)) n 0, d.firm.shaped.two);
+        fewer = λ x. omega (arith, set_most (set h.branch.children (n + 1) (children_at h.branch (n + 1) + 1)) n 0, d.firm.shaped.two);
         room = omega (arith, d.room);
       }
 
 module _ (h : History) (a l : ℕ) where
-  make-alike : Alike h (made h a l)
-  unfolding made withBranch
-  make-alike = record { shape = refl; start = refl; latest = refl; attributes = refl; finished = refl }
+  make_alike : Alike h (made h a l)
+  unfolding made with_branch
+  make_alike = record { shape = refl; start = refl; latest = refl; attributes = refl; finished = refl }
 
-  make-empty : intervalsAt (made h a l).branch l ≤ 0
-  unfolding made withBranch levelNew levelChild
-  make-empty = set-most h.branch.intervals l 0
+  make_empty : intervals_at (made h a l).branch l ≤ 0
+  unfolding made with_branch level_new level_child
+  make_empty = set_most h.branch.intervals l 0
 
 module _ (a : ℕ) where
-  pub descend-ends : (n : ℕ) (h : History) → Descending h n → Descending (descendOn a n h) 0
-  unfolding descendOn
-  descend-ends zero h d = d
-  descend-ends (suc n) h d = descend-ends n (made h a n) (make-descending h a n d)
+  pub descend_ends : (n : ℕ) (h : History) → Descending h n → Descending (descend_on a n h) 0
+  unfolding descend_on
+  descend_ends zero h d = d
+  descend_ends (suc n) h d = descend_ends n (made h a n) (make_descending h a n d)
 
-  pub descend-alike : (n : ℕ) (h : History) → Alike h (descendOn a n h)
-  unfolding descendOn
-  descend-alike zero h = record { shape = refl; start = refl; latest = refl; attributes = refl; finished = refl }
-  descend-alike (suc n) h = alike-over h (made h a n) (descendOn a n (made h a n)) (make-alike h a n) (descend-alike n (made h a n))
+  pub descend_alike : (n : ℕ) (h : History) → Alike h (descend_on a n h)
+  unfolding descend_on
+  descend_alike zero h = record { shape = refl; start = refl; latest = refl; attributes = refl; finished = refl }
+  descend_alike (suc n) h = alike_over h (made h a n) (descend_on a n (made h a n)) (make_alike h a n) (descend_alike n (made h a n))
 
-  pub descend-long : (n : ℕ) (h : History) → Long h.branch → Long (descendOn a n h).branch
-  unfolding descendOn
-  descend-long zero h g = g
-  descend-long (suc n) h g = descend-long n (made h a n) (made-long h n a g)
+  pub descend_long : (n : ℕ) (h : History) → Long h.branch → Long (descend_on a n h).branch
+  unfolding descend_on
+  descend_long zero h g = g
+  descend_long (suc n) h g = descend_long n (made h a n) (made_long h n a g)
 
   -- the lowest node of a chain is empty
-  descend-empty : (n : ℕ) (h : History) → intervalsAt (descendOn a (suc n) h).branch 0 ≡ 0
-  unfolding descendOn
-  descend-empty zero h = omega (arith, make-empty h a 0)
-  descend-empty (suc n) h = descend-empty n (made h a (suc n))
+  descend_empty : (n : ℕ) (h : History) → intervals_at (descend_on a (suc n) h).branch 0 ≡ 0
+  unfolding descend_on
+  descend_empty zero h = omega (arith, make_empty h a 0)
+  descend_empty (suc n) h = descend_empty n (made h a (suc n))
 
 -- the descent as a loop has it, with l levels left
 module _ (h : History) (l : ℕ) where
-  pub down-needs : 0 < l → Descending h l → (l - 1 < 15) × (h.used < 4294967295) × (childrenAt h.branch (l - 1 + 1) < 65535)
-  down-needs lt d = let e : l ≡ suc (l - 1) = omega arith in let k = make-needs h 0 (l - 1) (rw e at d) in (k.0, k.2, k.4)
+  pub down_needs : 0 < l → Descending h l → (l - 1 < 15) × (h.used < 4294967295) × (children_at h.branch (l - 1 + 1) < 65535)
+  down_needs lt d = let e : l ≡ suc (l - 1) = omega arith in let k = make_needs h 0 (l - 1) (rw e at d) in (k.0, k.2, k.4)
 
   module _ (a : ℕ) where
-    pub down-next : (g : History) → 0 < l → Descending h l → g ≡ made h a (l - 1) → Descending g (l - 1)
-    down-next g lt d is = let e : l ≡ suc (l - 1) = omega arith in rw is (make-descending h a (l - 1) (rw e at d))
+    pub down_next : (g : History) → 0 < l → Descending h l → g ≡ made h a (l - 1) → Descending g (l - 1)
+    down_next g lt d is = let e : l ≡ suc (l - 1) = omega arith in rw is (make_descending h a (l - 1) (rw e at d))
 
-    pub down-goes-on : (g b : History) → 0 < l → descendOn a l h ≡ b → g ≡ made h a (l - 1) → descendOn a (l - 1) g ≡ b
-    unfolding descendOn
-    down-goes-on g b lt inv is = let e : l ≡ suc (l - 1) = omega arith in rw is (rw e at inv)
+    pub down_goes_on : (g b : History) → 0 < l → descend_on a l h ≡ b → g ≡ made h a (l - 1) → descend_on a (l - 1) g ≡ b
+    unfolding descend_on
+    down_goes_on g b lt inv is = let e : l ≡ suc (l - 1) = omega arith in rw is (rw e at inv)
 
-    pub down_ends : (b : History) → l ≤ 0 → descendOn a l h ≡ b → h ≡ b
-    unfolding descendOn
+    pub down_ends : (b : History) → l ≤ 0 → descend_on a l h ≡ b → h ≡ b
+    unfolding descend_on
     down_ends b le inv = let e : l ≡ 0 = omega arith in rw e at inv
 
 module _ (h : History) (a n : ℕ) (g : Hanging h n) where
   -- and takes an interval
-  pub chain-empty : intervalsAt (descendOn a n h).branch 0 ≡ 0
-  chain-empty = let e : n ≡ suc (n - 1) = omega (arith, g.some) in rw e (descend-empty a (n - 1) h)
+  pub chain_empty : intervals_at (descend_on a n h).branch 0 ≡ 0
+  chain_empty = let e : n ≡ suc (n - 1) = omega (arith, g.some) in rw e (descend_empty a (n - 1) h)
 
-  pub chain-keeps : intervalsAt (descendOn a n h).branch 0 < (descendOn a n h).shape.k
-  chain-keeps = omega (arith, chain-empty, (descend-ends a n h g.down).firm.shaped.some)
+  pub chain_keeps : intervals_at (descend_on a n h).branch 0 < (descend_on a n h).shape.k
+  chain_keeps = omega (arith, chain_empty, (descend_ends a n h g.down).firm.shaped.some)
 
-  pub chain-firm : Firm (stored (descendOn a n h) 0)
-  chain-firm = firm-stored (descendOn a n h) (descend-ends a n h g.down).firm 0 chain-keeps
+  pub chain_firm : Firm (stored (descend_on a n h) 0)
+  chain_firm = firm_stored (descend_on a n h) (descend_ends a n h g.down).firm 0 chain_keeps

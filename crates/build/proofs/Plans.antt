@@ -9,68 +9,68 @@ use Rattle.layout.specs.declared.Shape.{Shape}
 use Rattle.record.specs.Record.{Branch, History}
 use Rattle.record.specs.declared.Refusal.TheVariants.{Nothing, Deep, NoRoom}
 use Rattle.record.specs.Refusals.{accepted}
-use Rattle.record.specs.Levels.{start_at, intervalsAt, childrenAt, lastEndAt}
+use Rattle.record.specs.Levels.{start_at, intervals_at, children_at, last_end_at}
 use Rattle.record.specs.Firm.{Firm}
 use Rattle.settle.specs.declared.Plan.{Plan}
 use Rattle.settle.specs.declared.Verdict.{Verdict}
 use Rattle.settle.specs.declared.Verdict.TheVariants.{Here, Chain, Close}
-use Rattle.settle.specs.Settle.{ruled, followed, plan, askUp, lowest, settle, needed, tooDeep, noRoom, planRefusal}
+use Rattle.settle.specs.Settle.{ruled, followed, plan, ask_up, lowest, settle, needed, too_deep, no_room, plan_refusal}
 use Rattle.build.specs.Feasible.{Feasible}
 
 -- ═══ "Each number is given exactly then" ═══
 
 module _ (h : History) (p : Plan) where
-  pub accepted-when : tooDeep p ≡ false → noRoom h p ≡ false → planRefusal h p ≡ Nothing
-  unfolding planRefusal
-  accepted-when d r = simp (d, r)
+  pub accepted_when : too_deep p ≡ false → no_room h p ≡ false → plan_refusal h p ≡ Nothing
+  unfolding plan_refusal
+  accepted_when d r = simp (d, r)
 
-  pub deep-when : tooDeep p ≡ true → planRefusal h p ≡ Deep
-  unfolding planRefusal
-  deep-when d = simp d
+  pub deep_when : too_deep p ≡ true → plan_refusal h p ≡ Deep
+  unfolding plan_refusal
+  deep_when d = simp d
 
-  pub no-room-when : tooDeep p ≡ false → noRoom h p ≡ true → planRefusal h p ≡ NoRoom
-  unfolding planRefusal
-  no-room-when d r = simp (d, r)
+  pub no_room_when : too_deep p ≡ false → no_room h p ≡ true → plan_refusal h p ≡ NoRoom
+  unfolding plan_refusal
+  no_room_when d r = simp (d, r)
 
-  pub then-room : planRefusal h p ≡ Nothing → (tooDeep p ≡ false) × (noRoom h p ≡ false)
-  unfolding planRefusal
-  then-room = go (tooDeep p) (noRoom h p)
+  pub then_room : plan_refusal h p ≡ Nothing → (too_deep p ≡ false) × (no_room h p ≡ false)
+  unfolding plan_refusal
+  then_room = go (too_deep p) (no_room h p)
     where
       go : (d r : Bool) → cond d Deep (cond r NoRoom Nothing) ≡ Nothing → (d ≡ false) × (r ≡ false)
       go true r e = (cc, cc)
       go false true e = (refl, cc)
       go false false e = (refl, refl)
 
-  pub then-deep : planRefusal h p ≡ Deep → tooDeep p ≡ true
-  unfolding planRefusal
-  then-deep = go (tooDeep p) (noRoom h p)
+  pub then_deep : plan_refusal h p ≡ Deep → too_deep p ≡ true
+  unfolding plan_refusal
+  then_deep = go (too_deep p) (no_room h p)
     where
       go : (d r : Bool) → cond d Deep (cond r NoRoom Nothing) ≡ Deep → d ≡ true
       go true r e = refl
       go false true e = cc
       go false false e = cc
 
-  pub then-no-room : planRefusal h p ≡ NoRoom → (tooDeep p ≡ false) × (noRoom h p ≡ true)
-  unfolding planRefusal
-  then-no-room = go (tooDeep p) (noRoom h p)
+  pub then_no_room : plan_refusal h p ≡ NoRoom → (too_deep p ≡ false) × (no_room h p ≡ true)
+  unfolding plan_refusal
+  then_no_room = go (too_deep p) (no_room h p)
     where
       go : (d r : Bool) → cond d Deep (cond r NoRoom Nothing) ≡ NoRoom → (d ≡ false) × (r ≡ true)
       go true r e = (cc, cc)
       go false true e = (refl, refl)
       go false false e = (refl, cc)
 
-  pub accepted-by : accepted (planRefusal h p) ≡ not (tooDeep p) && not (noRoom h p)
-  unfolding planRefusal
-  accepted-by = go (tooDeep p) (noRoom h p)
+  pub accepted_by : accepted (plan_refusal h p) ≡ not (too_deep p) && not (no_room h p)
+  unfolding plan_refusal
+  accepted_by = go (too_deep p) (no_room h p)
     where
       go : (d r : Bool) → accepted (cond d Deep (cond r NoRoom Nothing)) ≡ not d && not r
       go true r = refl
       go false true = refl
       go false false = refl
 
-  pub then-nothing : accepted (planRefusal h p) ≡ true → planRefusal h p ≡ Nothing
-  unfolding planRefusal
-  then-nothing = go (tooDeep p) (noRoom h p)
+  pub then_nothing : accepted (plan_refusal h p) ≡ true → plan_refusal h p ≡ Nothing
+  unfolding plan_refusal
+  then_nothing = go (too_deep p) (no_room h p)
     where
       go : (d r : Bool) → accepted (cond d Deep (cond r NoRoom Nothing)) ≡ true → cond d Deep (cond r NoRoom Nothing) ≡ Nothing
       go true r e = cc
@@ -80,16 +80,16 @@ module _ (h : History) (p : Plan) where
 -- ═══ What a verdict tells ═══
 
 abbrev Tells : Branch → Shape → ℕ → Bool → Verdict → Type 0
-Tells b sh l child Here = intervalsAt b l < sh.k
-Tells b sh l child Chain = (child ≡ false) × (0 < l) × (childrenAt b l < sh.c)
+Tells b sh l child Here = intervals_at b l < sh.k
+Tells b sh l child Chain = (child ≡ false) × (0 < l) × (children_at b l < sh.c)
 Tells b sh l child Close = Unit {0}
 
 tells : (b : Branch) (sh : Shape) (s l : ℕ) (child : Bool) (last : ℕ) → Tells b sh l child (ruled b sh s l child last)
 unfolding ruled
 tells b sh s l child last =
-    go child (ltb 0 l) (ltb last s) (ltb (childrenAt b l) sh.c) (ltb (intervalsAt b l) sh.k) (ltb-true _ _) (ltb-true _ _) (ltb-true _ _)
+    go child (ltb 0 l) (ltb last s) (ltb (children_at b l) sh.c) (ltb (intervals_at b l) sh.k) (ltb-true _ _) (ltb-true _ _) (ltb-true _ _)
   where
-    go : (child a d x y : Bool) → (a ≡ true → 0 < l) → (x ≡ true → childrenAt b l < sh.c) → (y ≡ true → intervalsAt b l < sh.k)
+    go : (child a d x y : Bool) → (a ≡ true → 0 < l) → (x ≡ true → children_at b l < sh.c) → (y ≡ true → intervals_at b l < sh.k)
         → Tells b sh l child (cond (not child && a && d) (cond x Chain Close) (cond y Here Close))
     go true a d x true up c k = k refl
     go true a d x false up c k = tt
@@ -107,8 +107,8 @@ record Sensible (h : History) (p : Plan) : Type 0 where
   closes : h.low + p.closes ≤ h.top + 1
   stays : p.closes ≡ 0 → (h.low ≤ p.level) × (p.level ≤ h.top)
   climbs : 0 < p.closes → p.level ≡ h.low + p.closes
-  grows : p.chain ≡ true → (0 < p.level) × (p.closes ≡ 0 → p.level ≡ h.low) × (p.level ≤ h.top → childrenAt h.branch p.level < h.shape.c)
-  keeps : p.chain ≡ false → p.level ≤ h.top → intervalsAt h.branch p.level < h.shape.k
+  grows : p.chain ≡ true → (0 < p.level) × (p.closes ≡ 0 → p.level ≡ h.low) × (p.level ≤ h.top → children_at h.branch p.level < h.shape.c)
+  keeps : p.chain ≡ false → p.level ≤ h.top → intervals_at h.branch p.level < h.shape.k
 
 -- the question is put to the open level l when n levels are to close: to the next above those, or to one found first
 record Stage (h : History) (l : ℕ) (child : Bool) (n : ℕ) : Type 0 where
@@ -156,21 +156,21 @@ climb h l le lt = record {
   next = λ z. omega arith;
 }
 
-asked : (left : ℕ) (h : History) (s l : ℕ) (child : Bool) (last n : ℕ) → left + l ≡ h.top → Stage h l child n → Sensible h (askUp left h s l child last n)
-unfolding askUp
+asked : (left : ℕ) (h : History) (s l : ℕ) (child : Bool) (last n : ℕ) → left + l ≡ h.top → Stage h l child n → Sensible h (ask_up left h s l child last n)
+unfolding ask_up
 asked zero h s l child last n e g =
     follow h l child n (ruled h.branch h.shape s l child last) (plan (l + 1 - h.low) (l + 1) (ltb h.largest_end s)) g (tells h.branch h.shape s l child last)
     (crowned h l (ltb h.largest_end s) g.above (omega arith))
 asked (suc left) h s l child last n e g =
-    let up = askUp left h s (l + 1) false h.largest_end (l + 1 - h.low) in
+    let up = ask_up left h s (l + 1) false h.largest_end (l + 1 - h.low) in
     follow h l child n (ruled h.branch h.shape s l child last) up g (tells h.branch h.shape s l child last)
     (asked left h s (l + 1) false h.largest_end (l + 1 - h.low) (omega arith) (climb h l g.above (omega arith)))
 
 -- the level found is an open one
-found-open : (left : ℕ) (b : Branch) (s l : ℕ) → (l ≤ lowest left b s l) × (lowest left b s l ≤ left + l)
+found_open : (left : ℕ) (b : Branch) (s l : ℕ) → (l ≤ lowest left b s l) × (lowest left b s l ≤ left + l)
 unfolding lowest
-found-open zero b s l = (omega arith, omega arith)
-found-open (suc left) b s l = go (leb (start_at b l) s) (found-open left b s (l + 1))
+found_open zero b s l = (omega arith, omega arith)
+found_open (suc left) b s l = go (leb (start_at b l) s) (found_open left b s (l + 1))
   where
     go : (t : Bool) → (l + 1 ≤ lowest left b s (l + 1)) × (lowest left b s (l + 1) ≤ left + (l + 1))
         → (l ≤ cond t l (lowest left b s (l + 1))) × (cond t l (lowest left b s (l + 1)) ≤ suc left + l)
@@ -181,8 +181,8 @@ sensible : (h : History) (s : ℕ) → h.low ≤ h.top → Sensible h (settle h 
 unfolding settle
 sensible h s le =
     let l = lowest (h.top - h.low) h.branch s h.low in
-    let o = found-open (h.top - h.low) h.branch s h.low in
-    asked (h.top - l) h s l (ltb h.low l) (lastEndAt h.branch l) 0 (omega (arith, o.1, le)) (record {
+    let o = found_open (h.top - h.low) h.branch s h.low in
+    asked (h.top - l) h s l (ltb h.low l) (last_end_at h.branch l) 0 (omega (arith, o.1, le)) (record {
       above = o.0;
       below = omega (arith, o.1, le);
       reach = omega (arith, o.0);
@@ -190,11 +190,11 @@ sensible h s le =
       next = λ z. absurd (omega arith);
     })
 
-pub feasible : (h : History) (s : ℕ) → Firm h → planRefusal h (settle h s) ≡ Nothing → Feasible h (settle h s)
+pub feasible : (h : History) (s : ℕ) → Firm h → plan_refusal h (settle h s) ≡ Nothing → Feasible h (settle h s)
 feasible h s f e =
     let p = settle h s in
     let g = sensible h s f.ordered in
-    let r = then-room h p e in
+    let r = then_room h p e in
     record {
       level = ltb-false 15 p.level r.0;
       closes = g.closes;

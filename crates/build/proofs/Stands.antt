@@ -6,35 +6,35 @@ use native.Mathlib.Omega.{arith}
 use lib.ListN.{length}
 use lib.Seq.{length-sets}
 use Rattle.layout.specs.declared.First.{First}
-use Rattle.layout.specs.Layout.{childAt, headerBytes, childBytes, encode, newNode}
+use Rattle.layout.specs.Layout.{child_at, header_bytes, child_bytes, encode, new_node}
 use Rattle.record.specs.Record.{History}
-use Rattle.record.specs.Levels.{placeAt, intervalsAt, childrenAt}
+use Rattle.record.specs.Levels.{place_at, intervals_at, children_at}
 use Rattle.record.specs.Firm.{Shaped, Firm}
-use Rattle.record.specs.Moves.{withBranch, raised, made, stored}
-use Rattle.record.proofs.Effects.{raised-other}
-use Rattle.record.proofs.Kept.{firm-raised, firm-made, firm-stored}
-use Rattle.build.specs.Moves.{Room, Standing, openEnd, standsAt, slot, head_of, putHead, putNew, withChild}
+use Rattle.record.specs.Moves.{with_branch, raised, made, stored}
+use Rattle.record.proofs.Effects.{raised_other}
+use Rattle.record.proofs.Kept.{firm_raised, firm_made, firm_stored}
+use Rattle.build.specs.Moves.{Room, Standing, open_end, stands_at, slot, head_of, put_head, put_new, with_child}
 
 -- ---- lengths
 
 module _ (h : History) (l : ℕ) (b : List ℕ) where
-  pub length-head : (e s : ℕ) → length (putHead h l e s b) ≡ length b
-  unfolding putHead
-  length-head e s = length-sets b (standsAt h l) (headerBytes (head_of h l e s))
+  pub length_head : (e s : ℕ) → length (put_head h l e s b) ≡ length b
+  unfolding put_head
+  length_head e s = length-sets b (stands_at h l) (header_bytes (head_of h l e s))
 
-  pub length-new : (first : First) → length (putNew h l first b) ≡ length b
-  unfolding putNew
-  length-new first = length-sets b (standsAt h l) (encode h.shape (newNode (head_of h l openEnd 1) first))
+  pub length_new : (first : First) → length (put_new h l first b) ≡ length b
+  unfolding put_new
+  length_new first = length-sets b (stands_at h l) (encode h.shape (new_node (head_of h l open_end 1) first))
 
-pub length-child : (h g : History) (a l : ℕ) (b : List ℕ) → length (withChild h g a l b) ≡ length b
-unfolding withChild
-length-child h g a l b =
-    length-sets (putHead g l openEnd 1 b) (standsAt h l + childAt (slot h l)) (childBytes (record { sequence = record { 0 = h.used }; start = a })) ∙ length-head g l b openEnd 1
+pub length_child : (h g : History) (a l : ℕ) (b : List ℕ) → length (with_child h g a l b) ≡ length b
+unfolding with_child
+length_child h g a l b =
+    length-sets (put_head g l open_end 1 b) (stands_at h l + child_at (slot h l)) (child_bytes (record { sequence = record { 0 = h.used }; start = a })) ∙ length_head g l b open_end 1
 
 -- ---- the record's own levels
 
-pub open-stands : (h : History) (l : ℕ) (b : List ℕ) → Firm h → Room h b → h.low ≤ l → l ≤ h.top → Standing h l b
-open-stands h l b f room x y = record {
+pub open_stands : (h : History) (l : ℕ) (b : List ℕ) → Firm h → Room h b → h.low ≤ l → l ≤ h.top → Standing h l b
+open_stands h l b f room x y = record {
   shaped = f.shaped;
   fitting = record {
     level = omega (arith, f.top);
@@ -53,20 +53,20 @@ open-stands h l b f room x y = record {
 module _ (h : History) (b : List ℕ) (f : Firm h) (room : Room h b) where
   module _ (lt : h.top < 15) (more : h.used < h.shape.n) where
     -- the old root, which is no longer open, is as it was
-    old-stands : Standing (raised h) h.top b
-    unfolding raised withBranch
-    old-stands =
-        let o = raised-other h h.top (λ e. omega arith) in
-        let s = open-stands h h.top b f room f.ordered (omega arith) in
-        let new = (firm-raised h f lt more).placed (h.top + 1) (omega arith) (omega arith) in
+    old_stands : Standing (raised h) h.top b
+    unfolding raised with_branch
+    old_stands =
+        let o = raised_other h h.top (λ e. omega arith) in
+        let s = open_stands h h.top b f room f.ordered (omega arith) in
+        let new = (firm_raised h f lt more).placed (h.top + 1) (omega arith) (omega arith) in
         record {
           shaped = f.shaped;
           fitting = record {
             level = omega arith;
             top = omega arith;
             place = omega (arith, o.at_place, s.fitting.place);
-            intervals = omega (arith, o.at-intervals, s.fitting.intervals);
-            children = omega (arith, o.at-children, s.fitting.children);
+            intervals = omega (arith, o.at_intervals, s.fitting.intervals);
+            children = omega (arith, o.at_children, s.fitting.children);
             parent = λ x. omega (arith, new, f.shaped.nodes);
           };
           place = omega (arith, o.at_place, s.place);
@@ -74,33 +74,33 @@ module _ (h : History) (b : List ℕ) (f : Firm h) (room : Room h b) where
         }
 
     pub root_stands : (g : History) → g ≡ raised h → Standing g h.top b
-    root_stands g e = rw e old-stands
+    root_stands g e = rw e old_stands
 
-    above-stands : (c : List ℕ) → length c ≡ length b → Standing (raised h) (h.top + 1) c
-    unfolding raised withBranch
-    above-stands c e = open-stands (raised h) (h.top + 1) c (firm-raised h f lt more) (omega (arith, room)) (omega arith) (omega arith)
+    above_stands : (c : List ℕ) → length c ≡ length b → Standing (raised h) (h.top + 1) c
+    unfolding raised with_branch
+    above_stands c e = open_stands (raised h) (h.top + 1) c (firm_raised h f lt more) (omega (arith, room)) (omega arith) (omega arith)
 
-    pub new-root-stands : (g k : History) (c : List ℕ) (l e s : ℕ) → g ≡ raised h → c ≡ putHead k l e s b → Standing g (h.top + 1) c
-    new-root-stands g k c l e s i j = rw i (above-stands c (ap length j ∙ length-head k l b e s))
+    pub new_root_stands : (g k : History) (c : List ℕ) (l e s : ℕ) → g ≡ raised h → c ≡ put_head k l e s b → Standing g (h.top + 1) c
+    new_root_stands g k c l e s i j = rw i (above_stands c (ap length j ∙ length_head k l b e s))
 
-  module _ (a l : ℕ) (is : h.low ≡ l + 1) (fewer : childrenAt h.branch (l + 1) < h.shape.c) (more : h.used < h.shape.n) where
-    made-stands : (m : ℕ) (c : List ℕ) → length c ≡ length b → l ≤ m → m ≤ h.top → Standing (made h a l) m c
-    unfolding made withBranch
-    made-stands m c e x y = open-stands (made h a l) m c (firm-made h f a l is fewer more) (omega (arith, room)) x y
+  module _ (a l : ℕ) (is : h.low ≡ l + 1) (fewer : children_at h.branch (l + 1) < h.shape.c) (more : h.used < h.shape.n) where
+    made_stands : (m : ℕ) (c : List ℕ) → length c ≡ length b → l ≤ m → m ≤ h.top → Standing (made h a l) m c
+    unfolding made with_branch
+    made_stands m c e x y = open_stands (made h a l) m c (firm_made h f a l is fewer more) (omega (arith, room)) x y
 
-    pub parent-stands : (g : History) → g ≡ made h a l → Standing g (l + 1) b
-    parent-stands g e = rw e (made-stands (l + 1) b refl (omega arith) (omega (arith, f.ordered)))
+    pub parent_stands : (g : History) → g ≡ made h a l → Standing g (l + 1) b
+    parent_stands g e = rw e (made_stands (l + 1) b refl (omega arith) (omega (arith, f.ordered)))
 
-    pub child-stands : (g : History) (c : List ℕ) → g ≡ made h a l → c ≡ withChild h g a (l + 1) b → Standing g l c
-    child-stands g c i j = rw i (made-stands l c (ap length j ∙ length-child h g a (l + 1) b) (omega arith) (omega (arith, f.ordered)))
+    pub child_stands : (g : History) (c : List ℕ) → g ≡ made h a l → c ≡ with_child h g a (l + 1) b → Standing g l c
+    child_stands g c i j = rw i (made_stands l c (ap length j ∙ length_child h g a (l + 1) b) (omega arith) (omega (arith, f.ordered)))
 
   module _ (l : ℕ) (low : h.low ≤ l) (top : l ≤ h.top) where
-    keeper-stands : intervalsAt h.branch l < h.shape.k → Standing (stored h l) l b
-    unfolding stored withBranch
-    keeper-stands fewer = open-stands (stored h l) l b (firm-stored h f l fewer) room low top
+    keeper_stands : intervals_at h.branch l < h.shape.k → Standing (stored h l) l b
+    unfolding stored with_branch
+    keeper_stands fewer = open_stands (stored h l) l b (firm_stored h f l fewer) room low top
 
-    pub stored-stands : (g : History) → g ≡ stored h l → intervalsAt h.branch l < h.shape.k → Standing g l b
-    stored-stands g e fewer = rw e (keeper-stands fewer)
+    pub stored_stands : (g : History) → g ≡ stored h l → intervals_at h.branch l < h.shape.k → Standing g l b
+    stored_stands g e fewer = rw e (keeper_stands fewer)
 
-    pub has-place : (l < 16) × (placeAt h.branch l < h.shape.n) × Shaped h.shape
-    has-place = let s = open-stands h l b f room low top in (s.fitting.level, s.place, s.shaped)
+    pub has_place : (l < 16) × (place_at h.branch l < h.shape.n) × Shaped h.shape
+    has_place = let s = open_stands h l b f room low top in (s.fitting.level, s.place, s.shaped)

@@ -1,8 +1,8 @@
 -- What holds while a plan is carried out on the record: what is left of it can be done.
 use Rattle.std.specs.Prelude.{ℕ, ◌+◌, ◌≤◌, ◌<◌, true, false, ◌≡◌}
 use Rattle.record.specs.Record.{History}
-use Rattle.record.specs.Levels.{intervalsAt, childrenAt, lastEndAt}
-use Rattle.record.specs.Sound.{lastTime}
+use Rattle.record.specs.Levels.{intervals_at, children_at, last_end_at}
+use Rattle.record.specs.Sound.{last_time}
 use Rattle.record.specs.Firm.{Firm}
 use Rattle.settle.specs.declared.Plan.{Plan}
 
@@ -24,13 +24,13 @@ pub record Climbing (h : History) (n : ℕ) : Type 0 where
 pub record Descending (h : History) (n : ℕ) : Type 0 where
   pub firm : Firm h
   pub low : h.low ≡ n
-  pub fewer : 0 < n → childrenAt h.branch n < h.shape.c
+  pub fewer : 0 < n → children_at h.branch n < h.shape.c
   pub room : h.used + n ≤ h.shape.n
 
 -- a chain can hang below level n
 pub record Hanging (h : History) (n : ℕ) : Type 0 where
   pub some : 0 < n
-  pub last : lastEndAt h.branch n ≤ lastTime
+  pub last : last_end_at h.branch n ≤ last_time
   pub down : Descending h n
 
 -- all that had to close is closed: the plan's level is open, and may grow the chain or store
@@ -39,4 +39,4 @@ pub record Landed (h : History) (p : Plan) : Type 0 where
   pub above : h.low ≤ p.level
   pub below : p.level ≤ h.top
   pub chain : p.chain ≡ true → Hanging h p.level
-  pub here : p.chain ≡ false → intervalsAt h.branch p.level < h.shape.k
+  pub here : p.chain ≡ false → intervals_at h.branch p.level < h.shape.k

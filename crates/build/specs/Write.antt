@@ -4,11 +4,11 @@ use Rattle.layout.specs.declared.Entry.{Entry}
 use Rattle.layout.specs.declared.First.TheVariants.{Nothing}
 use Rattle.record.specs.Record.{History}
 use Rattle.record.specs.Refusals.{accepted}
-use Rattle.record.specs.Levels.{lastEndAt}
+use Rattle.record.specs.Levels.{last_end_at}
 use Rattle.record.specs.Moves.{stretched}
 use Rattle.settle.specs.declared.Plan.{Plan}
-use Rattle.settle.specs.Settle.{settle, planRefusal}
-use Rattle.build.specs.Moves.{Held, putHead, putNew, close, raise, make, store}
+use Rattle.settle.specs.Settle.{settle, plan_refusal}
+use Rattle.build.specs.Moves.{Held, put_head, put_new, close, raise, make, store}
 
 -- one level less is open, or a new root is: the lowest closes
 unfoldable pub rise : Held → Held
@@ -29,7 +29,7 @@ stretch e σ = record { history = stretched σ.history e; nodes = σ.nodes }
 
 -- "make a chain .. all starting one after that last end, and store in the lowest"
 abbrev pub chained : Entry → ℕ → Held → Held
-chained e l σ = store e 0 (descend (lastEndAt σ.history.branch l + 1) l σ)
+chained e l σ = store e 0 (descend (last_end_at σ.history.branch l + 1) l σ)
 
 -- a chain, or store in the level itself
 unfoldable pub placed : Entry → Plan → Held → Held
@@ -40,13 +40,13 @@ written e p σ = placed e p (stretch e.end (climb p.closes σ))
 
 -- An interval stored, or nothing done where depth or room would not do.
 unfoldable pub inserted : Entry → Held → Held
-inserted e σ = let p = settle σ.history e.start in cond (accepted (planRefusal σ.history p)) (written e p σ) σ
+inserted e σ = let p = settle σ.history e.start in cond (accepted (plan_refusal σ.history p)) (written e p σ) σ
 
 -- "then closes all open nodes with end T": n levels from l up
-unfoldable pub closeAll : History → ℕ → ℕ → ℕ → List ℕ → List ℕ
-closeAll h t zero l b = b
-closeAll h t (suc n) l b = closeAll h t n (l + 1) (putHead h l t 2 b)
+unfoldable pub close_all : History → ℕ → ℕ → ℕ → List ℕ → List ℕ
+close_all h t zero l b = b
+close_all h t (suc n) l b = close_all h t n (l + 1) (put_head h l t 2 b)
 
 -- "Opening makes node 0: level 0, open, empty, starting at the history's start."
 unfoldable pub planted : History → List ℕ → List ℕ
-planted h b = putNew h 0 Nothing b
+planted h b = put_new h 0 Nothing b

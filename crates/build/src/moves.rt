@@ -1,10 +1,10 @@
 // The four ways in which record and node bytes change together, the header of an open level, and an interval whose header is left.
 ghost use Rattle.std.specs.Prelude.{◌≡◌, ◌+◌, ◌*◌, ◌≤◌, ◌<◌, length};
-ghost use Rattle.layout.specs.Layout.{nodeSize};
-ghost use Rattle.record.specs.Record.{branchOf, recordOf, usedIn, lowIn, topIn};
-ghost use Rattle.record.specs.Levels.{placeAt, intervalsAt, childrenAt};
+ghost use Rattle.layout.specs.Layout.{node_size};
+ghost use Rattle.record.specs.Record.{branch_of, record_of, used_in, low_in, top_in};
+ghost use Rattle.record.specs.Levels.{place_at, intervals_at, children_at};
 ghost use Rattle.record.specs.Firm.{Shaped, Firm};
-ghost use Rattle.build.specs.Moves.{parentAt, head_of, standsAt, putHead, putNew, Fitting, Standing, Room, Turns, close, raise, make, added, store};
+ghost use Rattle.build.specs.Moves.{parent_at, head_of, stands_at, put_head, put_new, Fitting, Standing, Room, Turns, close, raise, make, added, store};
 
 use layout::{Child, Entry, First, Header, Seq, Shape};
 
@@ -15,8 +15,8 @@ pub const OPEN_END: u64 = 0xffff_ffff_ffff_ffff;
 pub const NO_PARENT: u32 = 0xffff_ffff;
 
 fn parent_of(h: &[u64; 87], level: u64) -> Seq
-    requires { Fitting (branchOf h.now) (topIn h.now) level }
-    ensures { (s : Shape) → result ≡ parentAt (recordOf s h.now) level }
+    requires { Fitting (branch_of h.now) (top_in h.now) level }
+    ensures { (s : Shape) → result ≡ parent_at (record_of s h.now) level }
 {
     if level < h[record::TOP] {
         let i = (level + 1) as usize;
@@ -27,8 +27,8 @@ fn parent_of(h: &[u64; 87], level: u64) -> Seq
 
 // "What is written into open nodes comes from the record, not from node bytes."
 fn head_of(h: &[u64; 87], level: u64, end: u64, state: u8) -> Header
-    requires { Fitting (branchOf h.now) (topIn h.now) level }
-    ensures { (s : Shape) → result ≡ head_of (recordOf s h.now) level end state }
+    requires { Fitting (branch_of h.now) (top_in h.now) level }
+    ensures { (s : Shape) → result ≡ head_of (record_of s h.now) level end state }
 {
     let parent = parent_of(h, level);
     let i = level as usize;
@@ -45,8 +45,8 @@ fn head_of(h: &[u64; 87], level: u64, end: u64, state: u8) -> Header
 }
 
 fn place_of(shape: Shape, h: &[u64; 87], level: u64) -> usize
-    requires { (level < 16) × (placeAt (branchOf h.now) level < shape.n) × Shaped shape }
-    ensures { (result ≡ standsAt (recordOf shape h.now) level) × (result + nodeSize shape ≤ shape.n * nodeSize shape) }
+    requires { (level < 16) × (place_at (branch_of h.now) level < shape.n) × Shaped shape }
+    ensures { (result ≡ stands_at (record_of shape h.now) level) × (result + node_size shape ≤ shape.n * node_size shape) }
 {
     let i = level as usize;
     record::sound::stands_at(h[i] as u32, shape)
@@ -54,8 +54,8 @@ fn place_of(shape: Shape, h: &[u64; 87], level: u64) -> usize
 
 // "A header that changes is written whole."
 pub fn put_head(nodes: &mut [u8], shape: Shape, h: &[u64; 87], level: u64, end: u64, state: u8)
-    requires { Standing (recordOf shape h.now) level nodes.old }
-    ensures { nodes.new ≡ putHead (recordOf shape h.now) level end state nodes.old }
+    requires { Standing (record_of shape h.now) level nodes.old }
+    ensures { nodes.new ≡ put_head (record_of shape h.now) level end state nodes.old }
 {
     let at = place_of(shape, h, level);
     let head = head_of(h, level, end, state);
@@ -64,8 +64,8 @@ pub fn put_head(nodes: &mut [u8], shape: Shape, h: &[u64; 87], level: u64, end: 
 
 // A new node, whole.
 pub fn put_new(nodes: &mut [u8], shape: Shape, h: &[u64; 87], level: u64, first: First)
-    requires { Standing (recordOf shape h.now) level nodes.old }
-    ensures { nodes.new ≡ putNew (recordOf shape h.now) level first nodes.old }
+    requires { Standing (record_of shape h.now) level nodes.old }
+    ensures { nodes.new ≡ put_new (record_of shape h.now) level first nodes.old }
 {
     let at = place_of(shape, h, level);
     let head = head_of(h, level, OPEN_END, 1);
@@ -74,7 +74,7 @@ pub fn put_new(nodes: &mut [u8], shape: Shape, h: &[u64; 87], level: u64, first:
 
 // "Closing gives the node .. the end S": the lowest level, under an open one.
 pub fn close(nodes: &mut [u8], shape: Shape, h: &mut [u64; 87])
-    requires { (length h.old ≡ 87) × Firm (recordOf shape h.old) × Room (recordOf shape h.old) nodes.old × (lowIn h.old < topIn h.old) }
+    requires { (length h.old ≡ 87) × Firm (record_of shape h.old) × Room (record_of shape h.old) nodes.old × (low_in h.old < top_in h.old) }
     ensures { Turns shape h.old nodes.old h.new nodes.new close }
 {
     let low = h[record::LOW];
@@ -85,7 +85,7 @@ pub fn close(nodes: &mut [u8], shape: Shape, h: &mut [u64; 87])
 
 // "If the root was closed, a new root is made first .. with the old root as its only child, which learns its parent in the same call."
 pub fn raise(nodes: &mut [u8], shape: Shape, h: &mut [u64; 87])
-    requires { (length h.old ≡ 87) × Firm (recordOf shape h.old) × Room (recordOf shape h.old) nodes.old × (lowIn h.old ≡ topIn h.old) × (topIn h.old < 15) × (usedIn h.old < shape.n) }
+    requires { (length h.old ≡ 87) × Firm (record_of shape h.old) × Room (record_of shape h.old) nodes.old × (low_in h.old ≡ top_in h.old) × (top_in h.old < 15) × (used_in h.old < shape.n) }
     ensures { Turns shape h.old nodes.old h.new nodes.new raise }
 {
     let root = h[record::TOP];
@@ -102,7 +102,7 @@ pub fn raise(nodes: &mut [u8], shape: Shape, h: &mut [u64; 87])
 
 // A node of a chain under the lowest level: the parent's header and its new child entry, and the new node whole.
 pub fn make(nodes: &mut [u8], shape: Shape, h: &mut [u64; 87], start: u64, level: u64)
-    requires { (length h.old ≡ 87) × Firm (recordOf shape h.old) × Room (recordOf shape h.old) nodes.old × (lowIn h.old ≡ level + 1) × (childrenAt (branchOf h.old) (level + 1) < shape.c) × (usedIn h.old < shape.n) }
+    requires { (length h.old ≡ 87) × Firm (record_of shape h.old) × Room (record_of shape h.old) nodes.old × (low_in h.old ≡ level + 1) × (children_at (branch_of h.old) (level + 1) < shape.c) × (used_in h.old < shape.n) }
     ensures { Turns shape h.old nodes.old h.new nodes.new (make start level) }
 {
     let up = level + 1;
@@ -120,7 +120,7 @@ pub fn make(nodes: &mut [u8], shape: Shape, h: &mut [u64; 87], start: u64, level
 
 // An interval in an open node whose header is left to the caller: one header is enough for a run of intervals.
 pub fn add(nodes: &mut [u8], shape: Shape, h: &mut [u64; 87], e: Entry, level: u64)
-    requires { (length h.old ≡ 87) × Firm (recordOf shape h.old) × Room (recordOf shape h.old) nodes.old × (lowIn h.old ≤ level) × (level ≤ topIn h.old) × (intervalsAt (branchOf h.old) level < shape.k) }
+    requires { (length h.old ≡ 87) × Firm (record_of shape h.old) × Room (record_of shape h.old) nodes.old × (low_in h.old ≤ level) × (level ≤ top_in h.old) × (intervals_at (branch_of h.old) level < shape.k) }
     ensures { Turns shape h.old nodes.old h.new nodes.new (added e level) }
 {
     let slot = layout::entry_at(shape, h[record::INTERVALS + level as usize] as u32);
@@ -131,7 +131,7 @@ pub fn add(nodes: &mut [u8], shape: Shape, h: &mut [u64; 87], e: Entry, level: u
 
 // A level takes an interval: its header, and the entry.
 pub fn store(nodes: &mut [u8], shape: Shape, h: &mut [u64; 87], e: Entry, level: u64)
-    requires { (length h.old ≡ 87) × Firm (recordOf shape h.old) × Room (recordOf shape h.old) nodes.old × (lowIn h.old ≤ level) × (level ≤ topIn h.old) × (intervalsAt (branchOf h.old) level < shape.k) }
+    requires { (length h.old ≡ 87) × Firm (record_of shape h.old) × Room (record_of shape h.old) nodes.old × (low_in h.old ≤ level) × (level ≤ top_in h.old) × (intervals_at (branch_of h.old) level < shape.k) }
     ensures { Turns shape h.old nodes.old h.new nodes.new (store e level) }
 {
     let slot = layout::entry_at(shape, h[record::INTERVALS + level as usize] as u32);

@@ -1,13 +1,13 @@
 // A plan carried out on record and nodes; opening; closing all.
 ghost use Rattle.std.specs.Prelude.{◌≡◌, ◌+◌, ◌-◌, ◌≤◌, ◌<◌, length};
-ghost use Rattle.record.specs.Record.{recordOf, lowIn, topIn};
-ghost use Rattle.record.specs.Sound.{lastTime};
+ghost use Rattle.record.specs.Record.{record_of, low_in, top_in};
+ghost use Rattle.record.specs.Sound.{last_time};
 ghost use Rattle.record.specs.Firm.{Firm};
-ghost use Rattle.settle.specs.Settle.{settle, planRefusal};
+ghost use Rattle.settle.specs.Settle.{settle, plan_refusal};
 ghost use Rattle.build.specs.Moves.{Room, Standing, Turns};
 ghost use Rattle.build.specs.Feasible.{Feasible};
 ghost use Rattle.build.specs.Carried.{Climbing, Descending, Hanging};
-ghost use Rattle.build.specs.Write.{rise, climb, descend, chained, written, inserted, closeAll, planted};
+ghost use Rattle.build.specs.Write.{rise, climb, descend, chained, written, inserted, close_all, planted};
 
 use crate::moves;
 use layout::{Entry, First, Shape};
@@ -16,7 +16,7 @@ use settle::Plan;
 
 // The lowest level closes.
 fn rise(nodes: &mut [u8], shape: Shape, h: &mut [u64; 87])
-    requires { (length h.old ≡ 87) × Climbing (recordOf shape h.old) 1 × Room (recordOf shape h.old) nodes.old }
+    requires { (length h.old ≡ 87) × Climbing (record_of shape h.old) 1 × Room (record_of shape h.old) nodes.old }
     ensures { Turns shape h.old nodes.old h.new nodes.new rise }
 {
     if h[record::LOW] < h[record::TOP] {
@@ -27,7 +27,7 @@ fn rise(nodes: &mut [u8], shape: Shape, h: &mut [u64; 87])
 }
 
 fn climb(nodes: &mut [u8], shape: Shape, h: &mut [u64; 87], n: u64)
-    requires { (length h.old ≡ 87) × Climbing (recordOf shape h.old) n × Room (recordOf shape h.old) nodes.old }
+    requires { (length h.old ≡ 87) × Climbing (record_of shape h.old) n × Room (record_of shape h.old) nodes.old }
     ensures { Turns shape h.old nodes.old h.new nodes.new (climb n) }
 {
     let mut i: u64 = 0;
@@ -39,7 +39,7 @@ fn climb(nodes: &mut [u8], shape: Shape, h: &mut [u64; 87], n: u64)
 
 // "a chain of new nodes down to level 0"
 fn descend(nodes: &mut [u8], shape: Shape, h: &mut [u64; 87], start: u64, n: u64)
-    requires { (length h.old ≡ 87) × Descending (recordOf shape h.old) n × Room (recordOf shape h.old) nodes.old }
+    requires { (length h.old ≡ 87) × Descending (record_of shape h.old) n × Room (record_of shape h.old) nodes.old }
     ensures { Turns shape h.old nodes.old h.new nodes.new (descend start n) }
 {
     let mut level = n;
@@ -51,7 +51,7 @@ fn descend(nodes: &mut [u8], shape: Shape, h: &mut [u64; 87], start: u64, n: u64
 
 // "all starting one after that last end, and store in the lowest"
 fn chain(nodes: &mut [u8], shape: Shape, h: &mut [u64; 87], e: Entry, level: u64)
-    requires { (length h.old ≡ 87) × Hanging (recordOf shape h.old) level × Room (recordOf shape h.old) nodes.old }
+    requires { (length h.old ≡ 87) × Hanging (record_of shape h.old) level × Room (record_of shape h.old) nodes.old }
     ensures { Turns shape h.old nodes.old h.new nodes.new (chained e level) }
 {
     let start = h[record::LAST_ENDS + level as usize] + 1;
@@ -60,7 +60,7 @@ fn chain(nodes: &mut [u8], shape: Shape, h: &mut [u64; 87], e: Entry, level: u64
 }
 
 fn written(nodes: &mut [u8], shape: Shape, h: &mut [u64; 87], p: Plan, e: Entry)
-    requires { (length h.old ≡ 87) × Firm (recordOf shape h.old) × Room (recordOf shape h.old) nodes.old × Feasible (recordOf shape h.old) p × (e.end ≤ lastTime) }
+    requires { (length h.old ≡ 87) × Firm (record_of shape h.old) × Room (record_of shape h.old) nodes.old × Feasible (record_of shape h.old) p × (e.end ≤ last_time) }
     ensures { Turns shape h.old nodes.old h.new nodes.new (written e p) }
 {
     climb(nodes, shape, h, p.closes);
@@ -74,8 +74,8 @@ fn written(nodes: &mut [u8], shape: Shape, h: &mut [u64; 87], p: Plan, e: Entry)
 
 // Stores an interval, or does nothing where depth or room would not do.
 pub fn insert(nodes: &mut [u8], shape: Shape, h: &mut [u64; 87], e: Entry) -> Refusal
-    requires { (length h.old ≡ 87) × Firm (recordOf shape h.old) × Room (recordOf shape h.old) nodes.old × (e.end ≤ lastTime) }
-    ensures { (result ≡ planRefusal (recordOf shape h.old) (settle (recordOf shape h.old) e.start)) × Turns shape h.old nodes.old h.new nodes.new (inserted e) }
+    requires { (length h.old ≡ 87) × Firm (record_of shape h.old) × Room (record_of shape h.old) nodes.old × (e.end ≤ last_time) }
+    ensures { (result ≡ plan_refusal (record_of shape h.old) (settle (record_of shape h.old) e.start)) × Turns shape h.old nodes.old h.new nodes.new (inserted e) }
 {
     let level = settle::seek(h, e.start);
     if settle::takes(shape, h, e.start, level) {
@@ -94,8 +94,8 @@ pub fn insert(nodes: &mut [u8], shape: Shape, h: &mut [u64; 87], e: Entry) -> Re
 
 // "then closes all open nodes with end T"
 pub fn close_all(nodes: &mut [u8], shape: Shape, h: &[u64; 87], t: u64)
-    requires { Firm (recordOf shape h.now) × Room (recordOf shape h.now) nodes.old }
-    ensures { nodes.new ≡ closeAll (recordOf shape h.now) t (topIn h.now + 1 - lowIn h.now) (lowIn h.now) nodes.old }
+    requires { Firm (record_of shape h.now) × Room (record_of shape h.now) nodes.old }
+    ensures { nodes.new ≡ close_all (record_of shape h.now) t (top_in h.now + 1 - low_in h.now) (low_in h.now) nodes.old }
 {
     let mut level = h[record::LOW];
     while level <= h[record::TOP] {
@@ -106,8 +106,8 @@ pub fn close_all(nodes: &mut [u8], shape: Shape, h: &[u64; 87], t: u64)
 
 // "Opening makes node 0: level 0, open, empty, starting at the history's start."
 pub fn plant(nodes: &mut [u8], shape: Shape, h: &[u64; 87])
-    requires { Standing (recordOf shape h.now) 0 nodes.old }
-    ensures { nodes.new ≡ planted (recordOf shape h.now) nodes.old }
+    requires { Standing (record_of shape h.now) 0 nodes.old }
+    ensures { nodes.new ≡ planted (record_of shape h.now) nodes.old }
 {
     moves::put_new(nodes, shape, h, 0, First::Nothing);
 }

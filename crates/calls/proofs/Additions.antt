@@ -7,44 +7,44 @@ use native.Mathlib.Omega.{arith}
 use lib.Dec.{leb}
 use lib.ListN.{length}
 use borrow.Author.Tests.{leb-false}
-use Rattle.layout.specs.Layout.{entrySize}
+use Rattle.layout.specs.Layout.{entry_size}
 use Rattle.record.specs.Record.{History}
 use Rattle.record.specs.declared.Refusal.{Refusal}
 use Rattle.record.specs.declared.Refusal.TheVariants.{Nothing, Damaged, Short, Finished, TableFull}
 use Rattle.record.specs.Refusals.{accepted, first_of}
-use Rattle.record.specs.Sound.{sound, longEnough, admitted}
-use Rattle.record.specs.Moves.{withAttribute}
+use Rattle.record.specs.Sound.{sound, long_enough, admitted}
+use Rattle.record.specs.Moves.{with_attribute}
 use Rattle.transient.specs.declared.Ongoing.{Ongoing}
-use Rattle.transient.specs.Transient.{table_at, begins, withOngoing}
+use Rattle.transient.specs.Transient.{table_at, begins, with_ongoing}
 use Rattle.calls.specs.Outcome.{answered, outcome}
-use Rattle.calls.specs.Add.{addRefusal, addOf}
-use Rattle.calls.proofs.Refused.{unadmitted, after-head, comes-refused, comes-done}
+use Rattle.calls.specs.Add.{add_refusal, add_of}
+use Rattle.calls.proofs.Refused.{unadmitted, after_head, comes_refused, comes_done}
 
 -- ---- the list
 
 -- 4 and 8
 abbrev rest : History → ℕ → Refusal
-rest h table = first_of ((h.finished, Finished) ∷ (leb (table / entrySize) h.attributes || leb 4096 h.attributes, TableFull) ∷ [])
+rest h table = first_of ((h.finished, Finished) ∷ (leb (table / entry_size) h.attributes || leb 4096 h.attributes, TableFull) ∷ [])
 
 module _ (h : History) (nodes table : ℕ) (r : Refusal) (said : r ≡ admitted h nodes table) where
-  pub add-unadmitted : accepted r ≡ false → r ≡ addRefusal h nodes table
-  unfolding addRefusal
-  add-unadmitted e = unadmitted h nodes table (rest h table) r said e
+  pub add_unadmitted : accepted r ≡ false → r ≡ add_refusal h nodes table
+  unfolding add_refusal
+  add_unadmitted e = unadmitted h nodes table (rest h table) r said e
 
   module _ (e : r ≡ Nothing) where
-    after : rest h table ≡ addRefusal h nodes table
-    unfolding addRefusal
-    after = after-head h nodes table (rest h table) r said e
+    after : rest h table ≡ add_refusal h nodes table
+    unfolding add_refusal
+    after = after_head h nodes table (rest h table) r said e
 
-    pub add-finished : h.finished ≡ true → Finished ≡ addRefusal h nodes table
-    add-finished f = let s : Finished ≡ rest h table = rw f in s ∙ after
+    pub add_finished : h.finished ≡ true → Finished ≡ add_refusal h nodes table
+    add_finished f = let s : Finished ≡ rest h table = rw f in s ∙ after
 
     module _ (going : h.finished ≡ false) where
-      pub add-full : leb (table / entrySize) h.attributes || leb 4096 h.attributes ≡ true → TableFull ≡ addRefusal h nodes table
-      add-full f = let s : TableFull ≡ rest h table = rw (going, f) in s ∙ after
+      pub add_full : leb (table / entry_size) h.attributes || leb 4096 h.attributes ≡ true → TableFull ≡ add_refusal h nodes table
+      add_full f = let s : TableFull ≡ rest h table = rw (going, f) in s ∙ after
 
-      pub add-fine : leb (table / entrySize) h.attributes || leb 4096 h.attributes ≡ false → Nothing ≡ addRefusal h nodes table
-      add-fine f = let s : Nothing ≡ rest h table = rw (going, f) in s ∙ after
+      pub add_fine : leb (table / entry_size) h.attributes || leb 4096 h.attributes ≡ false → Nothing ≡ add_refusal h nodes table
+      add_fine f = let s : Nothing ≡ rest h table = rw (going, f) in s ∙ after
 
 -- ---- the call
 
@@ -54,10 +54,10 @@ neither false true z = absurd (false≢true (sym z))
 neither true y z = absurd (false≢true (sym z))
 
 -- accepted: the table has an entry more than there are attributes, and these are fewer than 4,096
-module _ (h : History) (nodes table : ℕ) (r : Refusal) (said : r ≡ addRefusal h nodes table) (e : r ≡ Nothing) where
-  not_full : leb (table / entrySize) h.attributes || leb 4096 h.attributes ≡ false
-  unfolding addRefusal
-  not_full = go (sound h) (longEnough h nodes table) h.finished (leb (table / entrySize) h.attributes || leb 4096 h.attributes) (sym e ∙ said)
+module _ (h : History) (nodes table : ℕ) (r : Refusal) (said : r ≡ add_refusal h nodes table) (e : r ≡ Nothing) where
+  not_full : leb (table / entry_size) h.attributes || leb 4096 h.attributes ≡ false
+  unfolding add_refusal
+  not_full = go (sound h) (long_enough h nodes table) h.finished (leb (table / entry_size) h.attributes || leb 4096 h.attributes) (sym e ∙ said)
     where
       go : (x y f b : Bool) → Nothing ≡ first_of ((not x, Damaged) ∷ (not y, Short) ∷ (f, Finished) ∷ (b, TableFull) ∷ []) → b ≡ false
       go true true false false z = refl
@@ -66,20 +66,20 @@ module _ (h : History) (nodes table : ℕ) (r : Refusal) (said : r ≡ addRefusa
       go true false f b z = let n : ◌≡◌ {A = ℕ} 0 1 = cc in absurd (omega arith)
       go false y f b z = let n : ◌≡◌ {A = ℕ} 0 1 = cc in absurd (omega arith)
 
-  pub add-room : table_at h.attributes + entrySize ≤ table
-  add-room = omega (arith, leb-false (table / entrySize) h.attributes (neither (leb (table / entrySize) h.attributes) (leb 4096 h.attributes) not_full).0)
+  pub add_room : table_at h.attributes + entry_size ≤ table
+  add_room = omega (arith, leb-false (table / entry_size) h.attributes (neither (leb (table / entry_size) h.attributes) (leb 4096 h.attributes) not_full).0)
 
   pub add_small : h.attributes < 4294967295
-  add_small = omega (arith, leb-false 4096 h.attributes (neither (leb (table / entrySize) h.attributes) (leb 4096 h.attributes) not_full).1)
+  add_small = omega (arith, leb-false 4096 h.attributes (neither (leb (table / entry_size) h.attributes) (leb 4096 h.attributes) not_full).1)
 
-module _ (h : History) (nodes table : List ℕ) (r : Refusal) (said : r ≡ addRefusal h (length nodes) (length table)) where
-  pub add-refused : accepted r ≡ false → outcome (answered r h) nodes table ≡ addOf h nodes table
-  unfolding addOf
-  add-refused e = comes-refused r _ said h nodes table _ e
+module _ (h : History) (nodes table : List ℕ) (r : Refusal) (said : r ≡ add_refusal h (length nodes) (length table)) where
+  pub add_refused : accepted r ≡ false → outcome (answered r h) nodes table ≡ add_of h nodes table
+  unfolding add_of
+  add_refused e = comes_refused r _ said h nodes table _ e
 
-  pub added : (o : Ongoing) (left : List ℕ) (g : History) → r ≡ Nothing → o ≡ begins h.start → left ≡ withOngoing table (record { 0 = h.attributes }) o → g ≡ withAttribute h
-      → outcome (answered Nothing g) nodes left ≡ addOf h nodes table
-  unfolding addOf
+  pub added : (o : Ongoing) (left : List ℕ) (g : History) → r ≡ Nothing → o ≡ begins h.start → left ≡ with_ongoing table (record { 0 = h.attributes }) o → g ≡ with_attribute h
+      → outcome (answered Nothing g) nodes left ≡ add_of h nodes table
+  unfolding add_of
   added o left g e a b d =
-      let is : outcome (answered Nothing g) nodes left ≡ outcome (answered Nothing (withAttribute h)) nodes (withOngoing table (record { 0 = h.attributes }) (begins h.start)) = rw (d, b, a) in
-      is ∙ comes-done r _ said h nodes table _ e
+      let is : outcome (answered Nothing g) nodes left ≡ outcome (answered Nothing (with_attribute h)) nodes (with_ongoing table (record { 0 = h.attributes }) (begins h.start)) = rw (d, b, a) in
+      is ∙ comes_done r _ said h nodes table _ e

@@ -11,35 +11,35 @@ use borrow.Author.Tests.{le-leb, lt-leb, le-ltb, lt-ltb, leb-false, ltb-false, n
 use Rattle.layout.specs.declared.Quark.{Quark}
 use Rattle.layout.specs.declared.Shape.{Shape}
 use Rattle.layout.specs.declared.Entry.{Entry}
-use Rattle.layout.specs.Layout.{entrySize}
+use Rattle.layout.specs.Layout.{entry_size}
 use Rattle.record.specs.Record.{History}
 use Rattle.record.specs.declared.Refusal.{Refusal}
 use Rattle.record.specs.declared.Refusal.TheVariants as R
-use Rattle.record.specs.Refusals.{accepted, first_of, firstElse}
-use Rattle.record.specs.Sound.{lastTime, sound, longEnough, admitted}
-use Rattle.record.specs.Moves.{atTime}
-use Rattle.record.proofs.Facts.{admitted-facts, sound-firm}
+use Rattle.record.specs.Refusals.{accepted, first_of, first_else}
+use Rattle.record.specs.Sound.{last_time, sound, long_enough, admitted}
+use Rattle.record.specs.Moves.{at_time}
+use Rattle.record.proofs.Facts.{admitted_facts, sound_firm}
 use Rattle.transient.specs.declared.Ongoing.{Ongoing}
 use Rattle.transient.specs.declared.Change.{Change}
 use Rattle.transient.specs.declared.Change.TheVariants.{Set}
 use Rattle.transient.specs.declared.Decision.{Decision}
 use Rattle.transient.specs.declared.Decision.TheVariants as D
-use Rattle.transient.specs.Transient.{table_at, ongoingAt, ongoingSound, interval, withOngoing, decide}
-use Rattle.transient.proofs.Sound.{ongoing-is}
-use Rattle.transient.proofs.Decisions.{ended-only}
-use Rattle.settle.specs.Settle.{settle, planRefusal}
+use Rattle.transient.specs.Transient.{table_at, ongoing_at, ongoing_sound, interval, with_ongoing, decide}
+use Rattle.transient.proofs.Sound.{ongoing_is}
+use Rattle.transient.proofs.Decisions.{ended_only}
+use Rattle.settle.specs.Settle.{settle, plan_refusal}
 use Rattle.build.specs.Moves.{Held, held}
 use Rattle.build.specs.Write.{written, inserted}
-use Rattle.calls.specs.Outcome.{Comes, answered, outcome, orRefused}
-use Rattle.calls.specs.Change.{carried, changeRefusal, changeOf}
-use Rattle.calls.specs.Parts.{unasked, untimely, undone, carriedOut, Due}
-use Rattle.calls.proofs.Refused.{refuses, passes, then-nothing, unadmitted, after-head, comes-refused, comes-done}
+use Rattle.calls.specs.Outcome.{Comes, answered, outcome, or_refused}
+use Rattle.calls.specs.Change.{carried, change_refusal, change_of}
+use Rattle.calls.specs.Parts.{unasked, untimely, undone, carried_out, Due}
+use Rattle.calls.proofs.Refused.{refuses, passes, then_nothing, unadmitted, after_head, comes_refused, comes_done}
 
 -- ---- the parts in sequence are the list
 
 -- of any tests
 sequence : (a b c d e f g : Bool) (r : Refusal)
-    → firstElse ((not a, R.Damaged) ∷ (not b, R.Short) ∷ (c, R.Finished) ∷ (d, R.NoQuark) ∷ (not e, R.Damaged) ∷ (f, R.Outside) ∷ (g, R.Early) ∷ []) r
+    → first_else ((not a, R.Damaged) ∷ (not b, R.Short) ∷ (c, R.Finished) ∷ (d, R.NoQuark) ∷ (not e, R.Damaged) ∷ (f, R.Outside) ∷ (g, R.Early) ∷ []) r
     ≡ (let u = first_of ((not a, R.Damaged) ∷ (not b, R.Short) ∷ (c, R.Finished) ∷ (d, R.NoQuark) ∷ []) in
     let v = first_of ((not e, R.Damaged) ∷ (f, R.Outside) ∷ (g, R.Early) ∷ []) in
     cond (accepted u) (cond (accepted v) r v) u)
@@ -54,27 +54,27 @@ sequence true true false false true false false r = refl
 
 -- the first part that refuses decides
 module _ (h : History) (t : ℕ) (q : Quark) (what : Change) (nodes table : List ℕ) where
-  pub change-parts :
-      changeRefusal h t q what nodes table
-      ≡ (let o = ongoingAt table q.0 in
+  pub change_parts :
+      change_refusal h t q what nodes table
+      ≡ (let o = ongoing_at table q.0 in
       let u = unasked h q (length nodes) (length table) in
       let v = untimely h o t in
       cond (accepted u) (cond (accepted v) (undone h o (decide o t what)) v) u)
-  unfolding changeRefusal unasked untimely undone
-  change-parts =
-      let o = ongoingAt table q.0 in
-      sequence (sound h) (longEnough h (length nodes) (length table)) h.finished (leb h.attributes q.0) (ongoingSound o h.start h.latest) (ltb lastTime t) (ltb t h.latest)
+  unfolding change_refusal unasked untimely undone
+  change_parts =
+      let o = ongoing_at table q.0 in
+      sequence (sound h) (long_enough h (length nodes) (length table)) h.finished (leb h.attributes q.0) (ongoing_sound o h.start h.latest) (ltb last_time t) (ltb t h.latest)
       (undone h o (decide o t what))
 
   -- An accepted change that ends an interval stores it: depth and room will do.
-  pub change-stores : changeRefusal h t q what nodes table ≡ R.Nothing → (next : Ongoing) → decide (ongoingAt table q.0) t what ≡ D.Ended next
-      → planRefusal h (settle h (ongoingAt table q.0).start) ≡ R.Nothing
-  unfolding undone planRefusal
-  change-stores e next d =
-      let o = ongoingAt table q.0 in
+  pub change_stores : change_refusal h t q what nodes table ≡ R.Nothing → (next : Ongoing) → decide (ongoing_at table q.0) t what ≡ D.Ended next
+      → plan_refusal h (settle h (ongoing_at table q.0).start) ≡ R.Nothing
+  unfolding undone plan_refusal
+  change_stores e next d =
+      let o = ongoing_at table q.0 in
       let v = untimely h o t in
       let w = undone h o (decide o t what) in
-      let last : w ≡ R.Nothing = then-nothing v w (then-nothing (unasked h q (length nodes) (length table)) (cond (accepted v) w v) (sym change-parts ∙ e)) in
+      let last : w ≡ R.Nothing = then_nothing v w (then_nothing (unasked h q (length nodes) (length table)) (cond (accepted v) w v) (sym change_parts ∙ e)) in
       ap (undone h o) (sym d) ∙ last
 
 -- ---- 3 record, 2, 4, 7
@@ -84,45 +84,45 @@ abbrev rest : History → Quark → Refusal
 rest h q = first_of ((h.finished, R.Finished) ∷ (leb h.attributes q.0, R.NoQuark) ∷ [])
 
 module _ (h : History) (q : Quark) (nodes table : ℕ) (r : Refusal) (said : r ≡ admitted h nodes table) where
-  pub unasked-head : accepted r ≡ false → r ≡ unasked h q nodes table
+  pub unasked_head : accepted r ≡ false → r ≡ unasked h q nodes table
   unfolding unasked
-  unasked-head e = unadmitted h nodes table (rest h q) r said e
+  unasked_head e = unadmitted h nodes table (rest h q) r said e
 
   module _ (e : r ≡ R.Nothing) where
     after : rest h q ≡ unasked h q nodes table
     unfolding unasked
-    after = after-head h nodes table (rest h q) r said e
+    after = after_head h nodes table (rest h q) r said e
 
-    pub unasked-finished : h.finished ≡ true → R.Finished ≡ unasked h q nodes table
-    unasked-finished f = let s : R.Finished ≡ rest h q = rw f in s ∙ after
+    pub unasked_finished : h.finished ≡ true → R.Finished ≡ unasked h q nodes table
+    unasked_finished f = let s : R.Finished ≡ rest h q = rw f in s ∙ after
 
     module _ (going : h.finished ≡ false) where
-      pub unasked-quark : h.attributes ≤ q.0 → R.NoQuark ≡ unasked h q nodes table
-      unasked-quark le = let s : R.NoQuark ≡ rest h q = rw (going, le-leb h.attributes q.0 le) in s ∙ after
+      pub unasked_quark : h.attributes ≤ q.0 → R.NoQuark ≡ unasked h q nodes table
+      unasked_quark le = let s : R.NoQuark ≡ rest h q = rw (going, le-leb h.attributes q.0 le) in s ∙ after
 
-      pub unasked-fine : q.0 < h.attributes → R.Nothing ≡ unasked h q nodes table
-      unasked-fine lt = let s : R.Nothing ≡ rest h q = rw (going, lt-leb h.attributes q.0 lt) in s ∙ after
+      pub unasked_fine : q.0 < h.attributes → R.Nothing ≡ unasked h q nodes table
+      unasked_fine lt = let s : R.Nothing ≡ rest h q = rw (going, lt-leb h.attributes q.0 lt) in s ∙ after
 
 -- ---- 3 entry, 6, 5
 
-module _ (h : History) (o : Ongoing) (t : ℕ) (x : Bool) (is : x ≡ ongoingSound o h.start h.latest) where
-  pub untimely-damaged : not x ≡ true → R.Damaged ≡ untimely h o t
+module _ (h : History) (o : Ongoing) (t : ℕ) (x : Bool) (is : x ≡ ongoing_sound o h.start h.latest) where
+  pub untimely_damaged : not x ≡ true → R.Damaged ≡ untimely h o t
   unfolding untimely
-  untimely-damaged n = simp (← is, not-true x n)
+  untimely_damaged n = simp (← is, not-true x n)
 
   module _ (m : not x ≡ false) where
-    pub untimely-outside : lastTime < t → R.Outside ≡ untimely h o t
+    pub untimely_outside : last_time < t → R.Outside ≡ untimely h o t
     unfolding untimely
-    untimely-outside lt = simp (← is, not-false x m, lt-ltb lastTime t lt)
+    untimely_outside lt = simp (← is, not-false x m, lt-ltb last_time t lt)
 
-    module _ (le : t ≤ lastTime) where
-      pub untimely-early : t < h.latest → R.Early ≡ untimely h o t
+    module _ (le : t ≤ last_time) where
+      pub untimely_early : t < h.latest → R.Early ≡ untimely h o t
       unfolding untimely
-      untimely-early lt = simp (← is, not-false x m, le-ltb lastTime t le, lt-ltb _ _ lt)
+      untimely_early lt = simp (← is, not-false x m, le-ltb last_time t le, lt-ltb _ _ lt)
 
-      pub untimely-fine : h.latest ≤ t → R.Nothing ≡ untimely h o t
+      pub untimely_fine : h.latest ≤ t → R.Nothing ≡ untimely h o t
       unfolding untimely
-      untimely-fine ge = simp (← is, not-false x m, le-ltb lastTime t le, le-ltb _ _ ge)
+      untimely_fine ge = simp (← is, not-false x m, le-ltb last_time t le, le-ltb _ _ ge)
 
 -- ---- what the first two parts give where they do not refuse
 
@@ -132,7 +132,7 @@ no e = absurd (omega arith)
 module _ (h : History) (q : Quark) (nodes table : ℕ) (u : Refusal) (said : u ≡ unasked h q nodes table) (e : u ≡ R.Nothing) where
   asked : (admitted h nodes table ≡ R.Nothing) × (h.finished ≡ false) × (leb h.attributes q.0 ≡ false)
   unfolding unasked admitted
-  asked = go (sound h) (longEnough h nodes table) h.finished (leb h.attributes q.0) (sym e ∙ said)
+  asked = go (sound h) (long_enough h nodes table) h.finished (leb h.attributes q.0) (sym e ∙ said)
     where
       go : (a b c d : Bool) → R.Nothing ≡ first_of ((not a, R.Damaged) ∷ (not b, R.Short) ∷ (c, R.Finished) ∷ (d, R.NoQuark) ∷ [])
           → (first_of ((not a, R.Damaged) ∷ (not b, R.Short) ∷ []) ≡ R.Nothing) × (c ≡ false) × (d ≡ false)
@@ -143,13 +143,13 @@ module _ (h : History) (q : Quark) (nodes table : ℕ) (u : Refusal) (said : u �
       go false b c d z = no (cc)
 
   -- the quark's entry lies in the table
-  pub asked_entry : table_at q.0 + entrySize ≤ table
-  asked_entry = omega (arith, leb-false h.attributes q.0 asked.2, (admitted-facts h nodes table asked.0).2 asked.1)
+  pub asked_entry : table_at q.0 + entry_size ≤ table
+  asked_entry = omega (arith, leb-false h.attributes q.0 asked.2, (admitted_facts h nodes table asked.0).2 asked.1)
 
 module _ (h : History) (o : Ongoing) (t : ℕ) (v : Refusal) (said : v ≡ untimely h o t) (e : v ≡ R.Nothing) where
-  timely : (ongoingSound o h.start h.latest ≡ true) × (ltb lastTime t ≡ false) × (ltb t h.latest ≡ false)
+  timely : (ongoing_sound o h.start h.latest ≡ true) × (ltb last_time t ≡ false) × (ltb t h.latest ≡ false)
   unfolding untimely
-  timely = go (ongoingSound o h.start h.latest) (ltb lastTime t) (ltb t h.latest) (sym e ∙ said)
+  timely = go (ongoing_sound o h.start h.latest) (ltb last_time t) (ltb t h.latest) (sym e ∙ said)
     where
       go : (a b c : Bool) → R.Nothing ≡ first_of ((not a, R.Damaged) ∷ (b, R.Outside) ∷ (c, R.Early) ∷ []) → (a ≡ true) × (b ≡ false) × (c ≡ false)
       go true false false z = (refl, refl, refl)
@@ -162,114 +162,114 @@ module _ (h : History) (t : ℕ) (q : Quark) (o : Ongoing) (nodes table : List �
   due a b d e =
       let is = asked h q (length nodes) (length table) u a b in
       let now = timely h o t v d e in
-      let f = admitted-facts h (length nodes) (length table) is.0 in
+      let f = admitted_facts h (length nodes) (length table) is.0 in
       record {
-        firm = sound-firm h f.0 is.1;
+        firm = sound_firm h f.0 is.1;
         room = f.1;
         entry = asked_entry h q (length nodes) (length table) u a b;
-        begun = omega (arith, (ongoing-is o h.start h.latest now.0).2, ltb-false t h.latest now.2);
-        last = ltb-false lastTime t now.1;
+        begun = omega (arith, (ongoing_is o h.start h.latest now.0).2, ltb-false t h.latest now.2);
+        last = ltb-false last_time t now.1;
       }
 
 -- ---- storing: what `insert` needs and gives
 
-pub entry-ends : (t : ℕ) (q : Quark) (o : Ongoing) (x : Entry) → x ≡ interval q o (t - 1) → t ≤ lastTime → x.end ≤ lastTime
+pub entry_ends : (t : ℕ) (q : Quark) (o : Ongoing) (x : Entry) → x ≡ interval q o (t - 1) → t ≤ last_time → x.end ≤ last_time
 unfolding interval
-entry-ends t q o x is le = rw is (omega arith)
+entry_ends t q o x is le = rw is (omega arith)
 
 module _ (h : History) (t : ℕ) (q : Quark) (o next : Ongoing) (nodes table : List ℕ) (x : Entry) (is : x ≡ interval q o (t - 1)) (r : Refusal) (g : History) (left : List ℕ) where
   -- what build::write::insert says of itself, but the array's length
   abbrev Inserted : Type 0
-  Inserted = (r ≡ planRefusal h (settle h x.start)) × (g ≡ (inserted x (held h nodes)).history) × (left ≡ (inserted x (held h nodes)).nodes)
+  Inserted = (r ≡ plan_refusal h (settle h x.start)) × (g ≡ (inserted x (held h nodes)).history) × (left ≡ (inserted x (held h nodes)).nodes)
 
   module _ (said : Inserted) where
     plan : r ≡ undone h o (D.Ended next)
-    unfolding undone interval planRefusal
-    plan = said.0 ∙ ap (λ (y : Entry). planRefusal h (settle h y.start)) is
+    unfolding undone interval plan_refusal
+    plan = said.0 ∙ ap (λ (y : Entry). plan_refusal h (settle h y.start)) is
 
-    pub store-refused : accepted r ≡ false → outcome (answered r g) left table ≡ carriedOut h t q o nodes table (D.Ended next)
+    pub store_refused : accepted r ≡ false → outcome (answered r g) left table ≡ carried_out h t q o nodes table (D.Ended next)
     unfolding inserted
-    store-refused e =
+    store_refused e =
         let kept : inserted x (held h nodes) ≡ held h nodes = ap (λ (b : Bool). cond b (written x (settle h x.start) (held h nodes)) (held h nodes)) (ap accepted (sym said.0) ∙ e) in
         let hist : g ≡ h = said.1 ∙ ap (λ (σ : Held). σ.history) kept in
         let byte : left ≡ nodes = said.2 ∙ ap (λ (σ : Held). σ.nodes) kept in
         let same : outcome (answered r g) left table ≡ outcome (answered r h) nodes table = λ i. outcome (answered r (hist i)) (byte i) table in
-        same ∙ comes-refused r _ plan h nodes table _ e
+        same ∙ comes_refused r _ plan h nodes table _ e
 
-    pub store-done : (f : History) (rows : List ℕ) → r ≡ R.Nothing → f ≡ atTime g t → rows ≡ withOngoing table q next
-        → outcome (answered R.Nothing f) left rows ≡ carriedOut h t q o nodes table (D.Ended next)
+    pub store_done : (f : History) (rows : List ℕ) → r ≡ R.Nothing → f ≡ at_time g t → rows ≡ with_ongoing table q next
+        → outcome (answered R.Nothing f) left rows ≡ carried_out h t q o nodes table (D.Ended next)
     unfolding carried
-    store-done f rows e a b =
+    store_done f rows e a b =
         let σ = inserted (interval q o (t - 1)) (held h nodes) in
         let hist : g ≡ σ.history = said.1 ∙ ap (λ (y : Entry). (inserted y (held h nodes)).history) is in
         let byte : left ≡ σ.nodes = said.2 ∙ ap (λ (y : Entry). (inserted y (held h nodes)).nodes) is in
-        let k : f ≡ atTime σ.history t = a ∙ ap (λ (y : History). atTime y t) hist in
-        let done : outcome (answered R.Nothing f) left rows ≡ outcome (answered R.Nothing (atTime σ.history t)) σ.nodes (withOngoing table q next) = λ i. outcome (answered R.Nothing (k i)) (byte i) (b i) in
-        done ∙ comes-done r _ plan h nodes table _ e
+        let k : f ≡ at_time σ.history t = a ∙ ap (λ (y : History). at_time y t) hist in
+        let done : outcome (answered R.Nothing f) left rows ≡ outcome (answered R.Nothing (at_time σ.history t)) σ.nodes (with_ongoing table q next) = λ i. outcome (answered R.Nothing (k i)) (byte i) (b i) in
+        done ∙ comes_done r _ plan h nodes table _ e
 
 -- ---- the four decisions
 
 module _ (h : History) (t : ℕ) (q : Quark) (o : Ongoing) (what : Change) (nodes table : List ℕ) (d : Decision) (is : d ≡ decide o t what) where
-  by : (f : Decision) → d ≡ f → carriedOut h t q o nodes table f ≡ carriedOut h t q o nodes table (decide o t what)
-  by f e = ap (carriedOut h t q o nodes table) (sym e ∙ is)
+  by : (f : Decision) → d ≡ f → carried_out h t q o nodes table f ≡ carried_out h t q o nodes table (decide o t what)
+  by f e = ap (carried_out h t q o nodes table) (sym e ∙ is)
 
-  pub carry-top : d ≡ D.Top → outcome (answered R.Top h) nodes table ≡ carriedOut h t q o nodes table (decide o t what)
+  pub carry_top : d ≡ D.Top → outcome (answered R.Top h) nodes table ≡ carried_out h t q o nodes table (decide o t what)
   unfolding undone
-  carry-top e = by D.Top e
+  carry_top e = by D.Top e
 
-  pub carry_same : (g : History) → d ≡ D.Same → g ≡ atTime h t → outcome (answered R.Nothing g) nodes table ≡ carriedOut h t q o nodes table (decide o t what)
+  pub carry_same : (g : History) → d ≡ D.Same → g ≡ at_time h t → outcome (answered R.Nothing g) nodes table ≡ carried_out h t q o nodes table (decide o t what)
   unfolding undone carried
   carry_same g e a = ap (λ (y : History). outcome (answered R.Nothing y) nodes table) a ∙ by D.Same e
 
-  pub carry-replaced : (next : Ongoing) (g : History) (rows : List ℕ) → d ≡ D.Replaced next → rows ≡ withOngoing table q next → g ≡ atTime h t
-      → outcome (answered R.Nothing g) nodes rows ≡ carriedOut h t q o nodes table (decide o t what)
+  pub carry_replaced : (next : Ongoing) (g : History) (rows : List ℕ) → d ≡ D.Replaced next → rows ≡ with_ongoing table q next → g ≡ at_time h t
+      → outcome (answered R.Nothing g) nodes rows ≡ carried_out h t q o nodes table (decide o t what)
   unfolding undone carried
-  carry-replaced next g rows e b a =
-      let done : outcome (answered R.Nothing g) nodes rows ≡ outcome (answered R.Nothing (atTime h t)) nodes (withOngoing table q next) = λ i. outcome (answered R.Nothing (a i)) nodes (b i) in
+  carry_replaced next g rows e b a =
+      let done : outcome (answered R.Nothing g) nodes rows ≡ outcome (answered R.Nothing (at_time h t)) nodes (with_ongoing table q next) = λ i. outcome (answered R.Nothing (a i)) nodes (b i) in
       done ∙ by (D.Replaced next) e
 
   module _ (next : Ongoing) (e : d ≡ D.Ended next) where
-    pub carry-before : Due h t q o nodes table → o.start < t
-    carry-before f = omega (arith, f.begun, (ended-only o t what next (sym is ∙ e)).0)
+    pub carry_before : Due h t q o nodes table → o.start < t
+    carry_before f = omega (arith, f.begun, (ended_only o t what next (sym is ∙ e)).0)
 
-    pub carry-ended : (r : Refusal) (s : Shape) (w left rows : List ℕ) → Comes r s w left rows (carriedOut h t q o nodes table (D.Ended next)) → Comes r s w left rows (carriedOut h t q o nodes table (decide o t what))
-    carry-ended r s w left rows k = (k.0, k.1 ∙ by (D.Ended next) e)
+    pub carry_ended : (r : Refusal) (s : Shape) (w left rows : List ℕ) → Comes r s w left rows (carried_out h t q o nodes table (D.Ended next)) → Comes r s w left rows (carried_out h t q o nodes table (decide o t what))
+    carry_ended r s w left rows k = (k.0, k.1 ∙ by (D.Ended next) e)
 
 -- ---- the call
 
 module _ (h : History) (t : ℕ) (q : Quark) (what : Change) (nodes table : List ℕ) (u : Refusal) (first : u ≡ unasked h q (length nodes) (length table)) where
   abbrev last : Refusal
-  last = undone h (ongoingAt table q.0) (decide (ongoingAt table q.0) t what)
+  last = undone h (ongoing_at table q.0) (decide (ongoing_at table q.0) t what)
 
   abbrev later : Refusal
-  later = let v = untimely h (ongoingAt table q.0) t in cond (accepted v) last v
+  later = let v = untimely h (ongoing_at table q.0) t in cond (accepted v) last v
 
-  parted : changeRefusal h t q what nodes table ≡ cond (accepted u) later u
-  parted = change-parts h t q what nodes table ∙ ap (λ (x : Refusal). cond (accepted x) later x) (sym first)
+  parted : change_refusal h t q what nodes table ≡ cond (accepted u) later u
+  parted = change_parts h t q what nodes table ∙ ap (λ (x : Refusal). cond (accepted x) later x) (sym first)
 
-  pub change-unasked : accepted u ≡ false → outcome (answered u h) nodes table ≡ changeOf h t q what nodes table
-  unfolding changeOf
-  change-unasked e = comes-refused u _ (sym (parted ∙ refuses u later e)) h nodes table _ e
+  pub change_unasked : accepted u ≡ false → outcome (answered u h) nodes table ≡ change_of h t q what nodes table
+  unfolding change_of
+  change_unasked e = comes_refused u _ (sym (parted ∙ refuses u later e)) h nodes table _ e
 
-  module _ (ok : u ≡ R.Nothing) (o : Ongoing) (read : o ≡ ongoingAt table q.0) (v : Refusal) (second : v ≡ untimely h o t) where
-    timed : changeRefusal h t q what nodes table ≡ cond (accepted v) last v
+  module _ (ok : u ≡ R.Nothing) (o : Ongoing) (read : o ≡ ongoing_at table q.0) (v : Refusal) (second : v ≡ untimely h o t) where
+    timed : change_refusal h t q what nodes table ≡ cond (accepted v) last v
     timed =
         parted ∙ passes u later ok
         ∙ ap (λ (x : Refusal). cond (accepted x) last x) (sym (second ∙ ap (λ (y : Ongoing). untimely h y t) read))
 
-    pub change-untimely : accepted v ≡ false → outcome (answered v h) nodes table ≡ changeOf h t q what nodes table
-    unfolding changeOf
-    change-untimely e = comes-refused v _ (sym (timed ∙ refuses v last e)) h nodes table _ e
+    pub change_untimely : accepted v ≡ false → outcome (answered v h) nodes table ≡ change_of h t q what nodes table
+    unfolding change_of
+    change_untimely e = comes_refused v _ (sym (timed ∙ refuses v last e)) h nodes table _ e
 
-    pub change-carried : v ≡ R.Nothing → (r : Refusal) (s : Shape) (w left rows : List ℕ) → Comes r s w left rows (carriedOut h t q o nodes table (decide o t what)) → Comes r s w left rows (changeOf h t q what nodes table)
-    unfolding changeOf
-    change-carried e r s w left rows k = (
+    pub change_carried : v ≡ R.Nothing → (r : Refusal) (s : Shape) (w left rows : List ℕ) → Comes r s w left rows (carried_out h t q o nodes table (decide o t what)) → Comes r s w left rows (change_of h t q what nodes table)
+    unfolding change_of
+    change_carried e r s w left rows k = (
       k.0,
-      k.1 ∙ ap (λ (y : Ongoing). carriedOut h t q y nodes table (decide y t what)) read
-          ∙ ap (λ (x : Refusal). orRefused x h nodes table (carried h t q (ongoingAt table q.0) nodes table (decide (ongoingAt table q.0) t what))) (sym (timed ∙ passes v last e)),
+      k.1 ∙ ap (λ (y : Ongoing). carried_out h t q y nodes table (decide y t what)) read
+          ∙ ap (λ (x : Refusal). or_refused x h nodes table (carried h t q (ongoing_at table q.0) nodes table (decide (ongoing_at table q.0) t what))) (sym (timed ∙ passes v last e)),
     )
 
 -- z is the value read back from its bits, as code has it
 pub set_back : (h : History) (t : ℕ) (q : Quark) (v z : ℤ) (nodes table : List ℕ) → z ≡ v → (r : Refusal) (s : Shape) (w left rows : List ℕ)
-    → Comes r s w left rows (changeOf h t q (Set z) nodes table) → Comes r s w left rows (changeOf h t q (Set v) nodes table)
-set_back h t q v z nodes table e r s w left rows k = (k.0, k.1 ∙ ap (λ (y : ℤ). changeOf h t q (Set y) nodes table) e)
+    → Comes r s w left rows (change_of h t q (Set z) nodes table) → Comes r s w left rows (change_of h t q (Set v) nodes table)
+set_back h t q v z nodes table e r s w left rows k = (k.0, k.1 ∙ ap (λ (y : ℤ). change_of h t q (Set y) nodes table) e)

@@ -5,17 +5,17 @@ use Rattle.record.specs.Record.{History}
 use Rattle.record.specs.declared.Refusal.{Refusal}
 use Rattle.record.specs.declared.Refusal.TheVariants as R
 use Rattle.record.specs.Refusals.{first_of}
-use Rattle.record.specs.Sound.{lastTime, sound, longEnough}
-use Rattle.record.specs.Moves.{atTime}
+use Rattle.record.specs.Sound.{last_time, sound, long_enough}
+use Rattle.record.specs.Moves.{at_time}
 use Rattle.transient.specs.declared.Change.{Change}
 use Rattle.transient.specs.declared.Ongoing.{Ongoing}
 use Rattle.transient.specs.declared.Decision.{Decision}
 use Rattle.transient.specs.declared.Decision.TheVariants.{Top, Same, Replaced, Ended}
-use Rattle.transient.specs.Transient.{ongoingAt, ongoingSound, interval, withOngoing, decide}
-use Rattle.settle.specs.Settle.{settle, tooDeep, noRoom}
+use Rattle.transient.specs.Transient.{ongoing_at, ongoing_sound, interval, with_ongoing, decide}
+use Rattle.settle.specs.Settle.{settle, too_deep, no_room}
 use Rattle.build.specs.Moves.{held}
 use Rattle.build.specs.Write.{inserted}
-use Rattle.calls.specs.Outcome.{Outcome, answered, outcome, orRefused}
+use Rattle.calls.specs.Outcome.{Outcome, answered, outcome, or_refused}
 
 -- "9 increment of 2^63-1"
 abbrev pub is_top : Decision → Bool
@@ -37,36 +37,36 @@ stores (Ended o) = true
 module _ (h : History) (t : ℕ) (q : Quark) (o : Ongoing) (nodes table : List ℕ) where
   unfoldable pub carried : Decision → Outcome
   carried Top = outcome (answered R.Nothing h) nodes table
-  carried Same = outcome (answered R.Nothing (atTime h t)) nodes table
-  carried (Replaced next) = outcome (answered R.Nothing (atTime h t)) nodes (withOngoing table q next)
+  carried Same = outcome (answered R.Nothing (at_time h t)) nodes table
+  carried (Replaced next) = outcome (answered R.Nothing (at_time h t)) nodes (with_ongoing table q next)
   carried (Ended next) =
       let σ = inserted (interval q o (t - 1)) (held h nodes) in
-      outcome (answered R.Nothing (atTime σ.history t)) σ.nodes (withOngoing table q next)
+      outcome (answered R.Nothing (at_time σ.history t)) σ.nodes (with_ongoing table q next)
 
 module _ (h : History) (t : ℕ) (q : Quark) (what : Change) (nodes table : List ℕ) where
   -- the quark's ongoing state, and what the change does to it
   abbrev pub ongoing : Ongoing
-  ongoing = ongoingAt table q.0
+  ongoing = ongoing_at table q.0
 
   abbrev pub decision : Decision
   decision = decide ongoing t what
 
-  abbrev pub changeTests : List (Bool × Refusal)
-  changeTests =
+  abbrev pub change_tests : List (Bool × Refusal)
+  change_tests =
       (not (sound h), R.Damaged)
-      ∷ (not (longEnough h (length nodes) (length table)), R.Short)
+      ∷ (not (long_enough h (length nodes) (length table)), R.Short)
       ∷ (h.finished, R.Finished)
       ∷ (leb h.attributes q.0, R.NoQuark)
-      ∷ (not (ongoingSound ongoing h.start h.latest), R.Damaged)
-      ∷ (ltb lastTime t, R.Outside)
+      ∷ (not (ongoing_sound ongoing h.start h.latest), R.Damaged)
+      ∷ (ltb last_time t, R.Outside)
       ∷ (ltb t h.latest, R.Early)
       ∷ (is_top decision, R.Top)
-      ∷ (stores decision && tooDeep (settle h ongoing.start), R.Deep)
-      ∷ (stores decision && noRoom h (settle h ongoing.start), R.NoRoom)
+      ∷ (stores decision && too_deep (settle h ongoing.start), R.Deep)
+      ∷ (stores decision && no_room h (settle h ongoing.start), R.NoRoom)
       ∷ []
 
-  unfoldable pub changeRefusal : Refusal
-  changeRefusal = first_of changeTests
+  unfoldable pub change_refusal : Refusal
+  change_refusal = first_of change_tests
 
-  unfoldable pub changeOf : Outcome
-  changeOf = orRefused changeRefusal h nodes table (carried h t q ongoing nodes table decision)
+  unfoldable pub change_of : Outcome
+  change_of = or_refused change_refusal h nodes table (carried h t q ongoing nodes table decision)

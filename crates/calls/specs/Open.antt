@@ -5,10 +5,10 @@ use Rattle.record.specs.Record.{History}
 use Rattle.record.specs.declared.Refusal.{Refusal}
 use Rattle.record.specs.declared.Refusal.TheVariants.{Nothing, Numbers, Short}
 use Rattle.record.specs.Refusals.{first_of}
-use Rattle.record.specs.Sound.{lastTime, shapeAllowed, longEnough}
-use Rattle.transient.specs.Transient.{begins, withOngoing}
+use Rattle.record.specs.Sound.{last_time, shape_allowed, long_enough}
+use Rattle.transient.specs.Transient.{begins, with_ongoing}
 use Rattle.build.specs.Write.{planted}
-use Rattle.calls.specs.Outcome.{Outcome, answered, outcome, orRefused}
+use Rattle.calls.specs.Outcome.{Outcome, answered, outcome, or_refused}
 
 -- a record of zeros: none came
 unfoldable pub blank : History
@@ -41,27 +41,27 @@ opened start attributes shape = record {
 }
 
 -- "At opening .. it is null from the history's start": the entries of n attributes from q on
-unfoldable pub tableOpened : ℕ → ℕ → ℕ → List ℕ → List ℕ
-tableOpened start zero q table = table
-tableOpened start (suc n) q table = tableOpened start n (q + 1) (withOngoing table (record { 0 = q }) (begins start))
+unfoldable pub table_opened : ℕ → ℕ → ℕ → List ℕ → List ℕ
+table_opened start zero q table = table
+table_opened start (suc n) q table = table_opened start n (q + 1) (with_ongoing table (record { 0 = q }) (begins start))
 
 -- "1 opening: a number of the list above, its start included, outside its range"; "2 a lent buffer too short"
-abbrev pub openTests : ℕ → ℕ → Shape → ℕ → ℕ → List (Bool × Refusal)
-openTests start attributes shape nodes table =
-    (not (shapeAllowed shape && leb start lastTime && leb attributes 4096), Numbers)
-    ∷ (not (longEnough (opened start attributes shape) nodes table), Short)
+abbrev pub open_tests : ℕ → ℕ → Shape → ℕ → ℕ → List (Bool × Refusal)
+open_tests start attributes shape nodes table =
+    (not (shape_allowed shape && leb start last_time && leb attributes 4096), Numbers)
+    ∷ (not (long_enough (opened start attributes shape) nodes table), Short)
     ∷ []
 
-unfoldable pub openRefusal : ℕ → ℕ → Shape → ℕ → ℕ → Refusal
-openRefusal start attributes shape nodes table = first_of (openTests start attributes shape nodes table)
+unfoldable pub open_refusal : ℕ → ℕ → Shape → ℕ → ℕ → Refusal
+open_refusal start attributes shape nodes table = first_of (open_tests start attributes shape nodes table)
 
 -- beside a record that came
-unfoldable pub openOn : History → ℕ → ℕ → Shape → List ℕ → List ℕ → Outcome
-openOn came start attributes shape nodes table =
+unfoldable pub open_on : History → ℕ → ℕ → Shape → List ℕ → List ℕ → Outcome
+open_on came start attributes shape nodes table =
     let h = opened start attributes shape in
-    orRefused (openRefusal start attributes shape (length nodes) (length table)) came nodes table
-    (outcome (answered Nothing h) (planted h nodes) (tableOpened start attributes 0 table))
+    or_refused (open_refusal start attributes shape (length nodes) (length table)) came nodes table
+    (outcome (answered Nothing h) (planted h nodes) (table_opened start attributes 0 table))
 
 -- beside none
-unfoldable pub openOf : ℕ → ℕ → Shape → List ℕ → List ℕ → Outcome
-openOf start attributes shape nodes table = openOn blank start attributes shape nodes table
+unfoldable pub open_of : ℕ → ℕ → Shape → List ℕ → List ℕ → Outcome
+open_of start attributes shape nodes table = open_on blank start attributes shape nodes table

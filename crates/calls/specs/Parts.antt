@@ -1,27 +1,27 @@
 -- A change's list in the three parts in which it is asked, and what each part gives to the next. The list itself, whole and in document 01's order, is
--- `Change.changeRefusal`; `proofs/Changes.antt` shows that the parts in sequence are that list.
+-- `Change.change_refusal`; `proofs/Changes.antt` shows that the parts in sequence are that list.
 use Rattle.std.specs.Prelude.{ℕ, ◌+◌, ◌≤◌, not, ◌&&◌, List, [], ◌∷◌, leb, ltb, length}
 use Rattle.layout.specs.declared.Quark.{Quark}
-use Rattle.layout.specs.Layout.{entrySize}
+use Rattle.layout.specs.Layout.{entry_size}
 use Rattle.record.specs.Record.{History}
 use Rattle.record.specs.declared.Refusal.{Refusal}
 use Rattle.record.specs.declared.Refusal.TheVariants as R
 use Rattle.record.specs.Refusals.{first_of}
-use Rattle.record.specs.Sound.{lastTime, sound, longEnough}
+use Rattle.record.specs.Sound.{last_time, sound, long_enough}
 use Rattle.record.specs.Firm.{Firm}
 use Rattle.transient.specs.declared.Ongoing.{Ongoing}
 use Rattle.transient.specs.declared.Decision.{Decision}
-use Rattle.transient.specs.Transient.{table_at, ongoingSound}
-use Rattle.settle.specs.Settle.{settle, tooDeep, noRoom}
+use Rattle.transient.specs.Transient.{table_at, ongoing_sound}
+use Rattle.settle.specs.Settle.{settle, too_deep, no_room}
 use Rattle.build.specs.Moves.{Room}
-use Rattle.calls.specs.Outcome.{Outcome, orRefused}
+use Rattle.calls.specs.Outcome.{Outcome, or_refused}
 use Rattle.calls.specs.Change.{is_top, stores, carried}
 
 -- 3 record, 2, 4, 7: before the entry is read
 unfoldable pub unasked : History → Quark → ℕ → ℕ → Refusal
 unasked h q nodes table = first_of (
     (not (sound h), R.Damaged)
-    ∷ (not (longEnough h nodes table), R.Short)
+    ∷ (not (long_enough h nodes table), R.Short)
     ∷ (h.finished, R.Finished)
     ∷ (leb h.attributes q.0, R.NoQuark)
     ∷ []
@@ -30,8 +30,8 @@ unasked h q nodes table = first_of (
 -- 3 entry, 6, 5
 unfoldable pub untimely : History → Ongoing → ℕ → Refusal
 untimely h o t = first_of (
-    (not (ongoingSound o h.start h.latest), R.Damaged)
-    ∷ (ltb lastTime t, R.Outside)
+    (not (ongoing_sound o h.start h.latest), R.Damaged)
+    ∷ (ltb last_time t, R.Outside)
     ∷ (ltb t h.latest, R.Early)
     ∷ []
     )
@@ -40,19 +40,19 @@ untimely h o t = first_of (
 unfoldable pub undone : History → Ongoing → Decision → Refusal
 undone h o d = first_of (
     (is_top d, R.Top)
-    ∷ (stores d && tooDeep (settle h o.start), R.Deep)
-    ∷ (stores d && noRoom h (settle h o.start), R.NoRoom)
+    ∷ (stores d && too_deep (settle h o.start), R.Deep)
+    ∷ (stores d && no_room h (settle h o.start), R.NoRoom)
     ∷ []
     )
 
 -- what is left of a change when the first two parts do not refuse it
-abbrev pub carriedOut : History → ℕ → Quark → Ongoing → List ℕ → List ℕ → Decision → Outcome
-carriedOut h t q o nodes table d = orRefused (undone h o d) h nodes table (carried h t q o nodes table d)
+abbrev pub carried_out : History → ℕ → Quark → Ongoing → List ℕ → List ℕ → Decision → Outcome
+carried_out h t q o nodes table d = or_refused (undone h o d) h nodes table (carried h t q o nodes table d)
 
 -- and what it may rely on
 pub record Due (h : History) (t : ℕ) (q : Quark) (o : Ongoing) (nodes table : List ℕ) : Type 0 where
   pub firm : Firm h
   pub room : Room h nodes
-  pub entry : table_at q.0 + entrySize ≤ length table
+  pub entry : table_at q.0 + entry_size ≤ length table
   pub begun : o.start ≤ t
-  pub last : t ≤ lastTime
+  pub last : t ≤ last_time

@@ -1,14 +1,14 @@
 // Adding an attribute.
 ghost use Rattle.std.specs.Prelude.{◌≡◌, length};
-ghost use Rattle.record.specs.Record.{recordOf};
+ghost use Rattle.record.specs.Record.{record_of};
 ghost use Rattle.calls.specs.Outcome.{Comes};
-ghost use Rattle.calls.specs.Add.{addRefusal, addOf};
+ghost use Rattle.calls.specs.Add.{add_refusal, add_of};
 
 use layout::{Quark, Shape};
 use record::Refusal;
 
 fn refusal(shape: Shape, h: &[u64; 87], nodes: usize, table: usize) -> Refusal
-    ensures { (result ≡ addRefusal (recordOf shape h.now) nodes table) × (length h.now ≡ 87) }
+    ensures { (result ≡ add_refusal (record_of shape h.now) nodes table) × (length h.now ≡ 87) }
 {
     let r = record::sound::admit(shape, h, nodes, table);
     let Refusal::Nothing = r else {
@@ -26,7 +26,7 @@ fn refusal(shape: Shape, h: &[u64; 87], nodes: usize, table: usize) -> Refusal
 
 // Adds an attribute, "null from the history's start". The nodes are only measured.
 pub fn add(shape: Shape, h: &mut [u64; 87], nodes: &[u8], table: &mut [u8]) -> Refusal
-    ensures { Comes result shape h.new nodes.now table.new (addOf (recordOf shape h.old) nodes.now table.old) }
+    ensures { Comes result shape h.new nodes.now table.new (add_of (record_of shape h.old) nodes.now table.old) }
 {
     let r = refusal(shape, h, nodes.len(), table.len());
     let Refusal::Nothing = r else {

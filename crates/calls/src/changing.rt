@@ -1,12 +1,12 @@
 // Set, remove and increment.
 ghost use Rattle.std.specs.Prelude.{◌≡◌, ◌<◌, length};
-ghost use Rattle.record.specs.Record.{recordOf};
+ghost use Rattle.record.specs.Record.{record_of};
 ghost use Rattle.transient.specs.declared.Change.TheVariants.{Set, Remove, Increment};
 ghost use Rattle.transient.specs.declared.Decision.TheVariants.{Ended};
 ghost use Rattle.transient.specs.Transient.{decide};
 ghost use Rattle.calls.specs.Outcome.{Comes};
-ghost use Rattle.calls.specs.Change.{changeOf};
-ghost use Rattle.calls.specs.Parts.{unasked, untimely, carriedOut, Due};
+ghost use Rattle.calls.specs.Change.{change_of};
+ghost use Rattle.calls.specs.Parts.{unasked, untimely, carried_out, Due};
 
 use layout::{Quark, Shape};
 use record::Refusal;
@@ -14,7 +14,7 @@ use transient::{Change, Decision, Ongoing};
 
 // The refusals that need neither the ongoing entry nor the nodes: 3 record, 2, 4, 7.
 fn unasked(shape: Shape, h: &[u64; 87], quark: Quark, nodes: usize, table: usize) -> Refusal
-    ensures { (result ≡ unasked (recordOf shape h.now) quark nodes table) × (length h.now ≡ 87) }
+    ensures { (result ≡ unasked (record_of shape h.now) quark nodes table) × (length h.now ≡ 87) }
 {
     let r = record::sound::admit(shape, h, nodes, table);
     let Refusal::Nothing = r else {
@@ -31,7 +31,7 @@ fn unasked(shape: Shape, h: &[u64; 87], quark: Quark, nodes: usize, table: usize
 
 // 3 entry, 6, 5.
 fn untimely(shape: Shape, h: &[u64; 87], o: Ongoing, t: u64) -> Refusal
-    ensures { result ≡ untimely (recordOf shape h.now) o t }
+    ensures { result ≡ untimely (record_of shape h.now) o t }
 {
     if !transient::ongoing_sound(o, h[record::START], h[record::LATEST]) {
         return Refusal::Damaged;
@@ -56,8 +56,8 @@ fn store(
     nodes: &mut [u8],
     table: &mut [u8],
 ) -> Refusal
-    requires { (length h.old ≡ 87) × Due (recordOf shape h.old) t quark o nodes.old table.old × (o.start < t) }
-    ensures { Comes result shape h.new nodes.new table.new (carriedOut (recordOf shape h.old) t quark o nodes.old table.old (Ended next)) }
+    requires { (length h.old ≡ 87) × Due (record_of shape h.old) t quark o nodes.old table.old × (o.start < t) }
+    ensures { Comes result shape h.new nodes.new table.new (carried_out (record_of shape h.old) t quark o nodes.old table.old (Ended next)) }
 {
     let e = transient::ongoing_entry(quark, o, t - 1);
     let r = build::write::insert(nodes, shape, h, e);
@@ -80,8 +80,8 @@ fn carry(
     nodes: &mut [u8],
     table: &mut [u8],
 ) -> Refusal
-    requires { (length h.old ≡ 87) × Due (recordOf shape h.old) t quark o nodes.old table.old }
-    ensures { Comes result shape h.new nodes.new table.new (carriedOut (recordOf shape h.old) t quark o nodes.old table.old (decide o t what)) }
+    requires { (length h.old ≡ 87) × Due (record_of shape h.old) t quark o nodes.old table.old }
+    ensures { Comes result shape h.new nodes.new table.new (carried_out (record_of shape h.old) t quark o nodes.old table.old (decide o t what)) }
 {
     let d = transient::decide(o, t, what);
     match d {
@@ -108,7 +108,7 @@ fn change(
     nodes: &mut [u8],
     table: &mut [u8],
 ) -> Refusal
-    ensures { Comes result shape h.new nodes.new table.new (changeOf (recordOf shape h.old) t quark what nodes.old table.old) }
+    ensures { Comes result shape h.new nodes.new table.new (change_of (record_of shape h.old) t quark what nodes.old table.old) }
 {
     let r = unasked(shape, h, quark, nodes.len(), table.len());
     let Refusal::Nothing = r else {
@@ -131,7 +131,7 @@ pub fn set(
     nodes: &mut [u8],
     table: &mut [u8],
 ) -> Refusal
-    ensures { Comes result shape h.new nodes.new table.new (changeOf (recordOf shape h.old) t quark (Set value) nodes.old table.old) }
+    ensures { Comes result shape h.new nodes.new table.new (change_of (record_of shape h.old) t quark (Set value) nodes.old table.old) }
 {
     change(shape, h, t, quark, Change::Set(value), nodes, table)
 }
@@ -144,7 +144,7 @@ pub fn remove(
     nodes: &mut [u8],
     table: &mut [u8],
 ) -> Refusal
-    ensures { Comes result shape h.new nodes.new table.new (changeOf (recordOf shape h.old) t quark Remove nodes.old table.old) }
+    ensures { Comes result shape h.new nodes.new table.new (change_of (record_of shape h.old) t quark Remove nodes.old table.old) }
 {
     change(shape, h, t, quark, Change::Remove, nodes, table)
 }
@@ -157,7 +157,7 @@ pub fn increment(
     nodes: &mut [u8],
     table: &mut [u8],
 ) -> Refusal
-    ensures { Comes result shape h.new nodes.new table.new (changeOf (recordOf shape h.old) t quark Increment nodes.old table.old) }
+    ensures { Comes result shape h.new nodes.new table.new (change_of (record_of shape h.old) t quark Increment nodes.old table.old) }
 {
     change(shape, h, t, quark, Change::Increment, nodes, table)
 }

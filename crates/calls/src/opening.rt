@@ -1,16 +1,16 @@
 // Opening a history.
 ghost use Rattle.std.specs.Prelude.{◌≡◌, ◌*◌, ◌≤◌, length};
-ghost use Rattle.layout.specs.Layout.{entrySize};
-ghost use Rattle.record.specs.Record.{recordOf};
+ghost use Rattle.layout.specs.Layout.{entry_size};
+ghost use Rattle.record.specs.Record.{record_of};
 ghost use Rattle.calls.specs.Outcome.{Comes};
-ghost use Rattle.calls.specs.Open.{opened, tableOpened, openRefusal, openOn};
+ghost use Rattle.calls.specs.Open.{opened, table_opened, open_refusal, open_on};
 
 use layout::{Quark, Shape};
 use record::Refusal;
 
 // The record of a history that begins.
 fn begin(h: &mut [u64; 87], start: u64, attributes: u32)
-    ensures { (length h.new ≡ 87) × ((s : Shape) → recordOf s h.new ≡ opened start attributes s) }
+    ensures { (length h.new ≡ 87) × ((s : Shape) → record_of s h.new ≡ opened start attributes s) }
 {
     let mut g = [0u64; 87];
     g[record::STARTS] = start;
@@ -23,7 +23,7 @@ fn begin(h: &mut [u64; 87], start: u64, attributes: u32)
 }
 
 fn refusal(start: u64, attributes: u32, shape: Shape, nodes: usize, table: usize) -> Refusal
-    ensures { result ≡ openRefusal start attributes shape nodes table }
+    ensures { result ≡ open_refusal start attributes shape nodes table }
 {
     let allowed = record::sound::shape_allowed(shape);
     if !(allowed & (start <= record::sound::LAST_TIME) & (attributes <= 4096)) {
@@ -37,8 +37,8 @@ fn refusal(start: u64, attributes: u32, shape: Shape, nodes: usize, table: usize
 
 // "At opening .. it is null from the history's start."
 fn open_table(table: &mut [u8], start: u64, attributes: u32)
-    requires { attributes * entrySize ≤ length table.old }
-    ensures { table.new ≡ tableOpened start attributes 0 table.old }
+    requires { attributes * entry_size ≤ length table.old }
+    ensures { table.new ≡ table_opened start attributes 0 table.old }
 {
     let mut q: u32 = 0;
     while q < attributes {
@@ -56,7 +56,7 @@ pub fn open(
     nodes: &mut [u8],
     table: &mut [u8],
 ) -> Refusal
-    ensures { Comes result shape h.new nodes.new table.new (openOn (recordOf shape h.old) start attributes shape nodes.old table.old) }
+    ensures { Comes result shape h.new nodes.new table.new (open_on (record_of shape h.old) start attributes shape nodes.old table.old) }
 {
     let all = record::sound::entire(h); // for the proof alone
     let r = refusal(start, attributes, shape, nodes.len(), table.len());

@@ -8,29 +8,29 @@ use lib.Dec.{ltb, eqb}
 use lib.ListN.{length}
 use lib.Seq.{sets}
 use borrow.Author.Tests.{le-leb, lt-leb, eqb-true, ltb-false}
-use Rattle.layout.specs.Layout.{entrySize, entryBytes, spread}
+use Rattle.layout.specs.Layout.{entry_size, entry_bytes, spread}
 use Rattle.record.specs.Record.{History}
 use Rattle.record.specs.declared.Refusal.TheVariants as R
 use Rattle.record.specs.Refusals.{number_of, accepted}
 use Rattle.questions.specs.declared.Single.{Single}
-use Rattle.questions.specs.Single.{singleOf}
-use Rattle.full_question.specs.Full.{fullRefusal, full_of, fullWritten}
+use Rattle.questions.specs.Single.{single_of}
+use Rattle.full_question.specs.Full.{full_refusal, full_of, full_written}
 use Rattle.model.specs.Transient as M
 use Rattle.model.specs.Transient.{Interval, history}
 use Rattle.model.specs.Nodes.{∞, Node, upto}
 use Rattle.model.specs.Questions as Q
 use Rattle.model.specs.Questions.{only, covers, ongoing, scan, scans, tally, said}
-use Rattle.model.specs.Refusals.{refuseSingle, refuseFull}
+use Rattle.model.specs.Refusals.{refuse_single, refuse_full}
 use Rattle.model.specs.Theorems as T
-use Rattle.model.specs.Theorems.{left, made, allSaid}
+use Rattle.model.specs.Theorems.{left, made, all_said}
 use Rattle.model.proofs.Onto.{step_start}
 use Rattle.model.proofs.Tests.{and_both}
-use Rattle.model.proofs.Proved.{value-said, full-said, single-scans, full-scans, single-enters, full-enters}
+use Rattle.model.proofs.Proved.{value_said, full_said, single_scans, full_scans, single_enters, full_enters}
 use Rattle.represents.specs.Represents.{entry_of}
 use Rattle.represents.specs.Answered.{SingleAnswered, FullAnswered}
-use Rattle.represents.proofs.Numbers.{zero-nothing}
-use Rattle.represents.proofs.OneAnswered.{single-answered}
-use Rattle.represents.proofs.AllAnswered.{full-answered}
+use Rattle.represents.proofs.Numbers.{zero_nothing}
+use Rattle.represents.proofs.OneAnswered.{single_answered}
+use Rattle.represents.proofs.AllAnswered.{full_answered}
 use Rattle.demands.specs.Runs.{single, full, State, Answer, says, quark, told, answered as asks, step}
 use Rattle.demands.specs.Sequences.{Sequence, now, taken, story}
 use Rattle.demands.specs.Demands.{Between, NumbersSaid, SingleTells, FullTells, SingleScans, FullScans}
@@ -62,9 +62,9 @@ only-passes p (y ∷ xs) x rest e = go (p y) refl (only-passes p xs x rest) e
     go true f later g = ap p (sym (head-eq_of_cons-eq g)) ∙ f
     go false f later g = later g
 
-scan-quark : (l : M.History) (q t : ℕ) (x : Interval) → scan l q t ≡ x ∷ [] → x.quark ≡ q
+scan_quark : (l : M.History) (q t : ℕ) (x : Interval) → scan l q t ≡ x ∷ [] → x.quark ≡ q
 unfolding scan
-scan-quark l q t x e = go (ongoing l q t) e
+scan_quark l q t x e = go (ongoing l q t) e
   where
     go : (b : Bool) → cond b (record { quark = q; state = (l.table q).state; start = (l.table q).start; end = ∞ } ∷ []) [] ++ only (covers q t) l.stored ≡ x ∷ [] → x.quark ≡ q
     go true f = ap (λ (z : Interval). z.quark) (sym (head-eq_of_cons-eq f))
@@ -78,7 +78,7 @@ module _ (s : Sequence) where
 
   module _ (q t : ℕ) where
     abbrev one : Single
-    one = singleOf (now s).history t (quark q) (now s).nodes (now s).table
+    one = single_of (now s).history t (quark q) (now s).nodes (now s).table
 
     -- the question of the run is the record's
     pub single_step : (step (single t q) (now s)).1 ≡ (told (now s) t q).1
@@ -86,9 +86,9 @@ module _ (s : Sequence) where
     single_step = ap (λ (b : Bool). (cond b (told (now s) t q) (now s, says R.NotOpen)).1) (known s).begun
 
     one-answered : SingleAnswered (ran s) q t one
-    one-answered = single-answered (allowed s) (fitting s) (mirrored s) t (quark q)
+    one-answered = single_answered (allowed s) (fitting s) (mirrored s) t (quark q)
 
-    asked-one : q < h.attributes → Between s t → refuseSingle (left (ran s)) q t ≡ 0
+    asked-one : q < h.attributes → Between s t → refuse_single (left (ran s)) q t ≡ 0
     asked-one lt b = let m = mirrored s in
         rw (lt-leb (left (ran s)).attributes q (omega (arith, m.attributes)), le-leb (left (ran s)).start t (omega (arith, m.start, b.0)), le-leb t (left (ran s)).latest (omega (arith, m.latest, b.1)))
 
@@ -96,15 +96,15 @@ module _ (s : Sequence) where
   single-tells q t lt b = rw (single_step q t) (
       let z = asked-one q t lt b in
       let a = one-answered q t in
-      let v = value-said (ran s) (allowed s) q t z in
+      let v = value_said (ran s) (allowed s) q t z in
       let x = v.0 in
-      let found = single-scans (ran s) (allowed s) q t z in
+      let found = single_scans (ran s) (allowed s) q t z in
       let covered : scan (left (ran s)) q t ≡ x ∷ [] = sym found ∙ v.1 in
       record {
-        accepted = zero-nothing (one q t).refusal (a.number ∙ z);
+        accepted = zero_nothing (one q t).refusal (a.number ∙ z);
         interval = x;
         entry = head-eq_of_cons-eq (a.entry z ∙ ap (map entry_of) v.1);
-        quark = scan-quark (left (ran s)) q t x covered;
+        quark = scan_quark (left (ran s)) q t x covered;
         value = v.2 ∙ ap (λ (cs : List M.Call). said cs q t) (known s).took;
         only = ap (λ (l : M.History). scan l q t) (sym (leaves s)) ∙ covered;
       })
@@ -113,10 +113,10 @@ module _ (s : Sequence) where
   unfolding number_of
   single-scanned q t ok =
       let a = one-answered q t in
-      let z : refuseSingle (left (ran s)) q t ≡ 0 = sym a.number ∙ ap number_of (ap (λ (x : Answer). x.refusal) (sym (single_step q t)) ∙ ok) in
+      let z : refuse_single (left (ran s)) q t ≡ 0 = sym a.number ∙ ap number_of (ap (λ (x : Answer). x.refusal) (sym (single_step q t)) ∙ ok) in
       rw (single_step q t) (record {
-        entry = a.entry z ∙ ap (map entry_of) (single-scans (ran s) (allowed s) q t z ∙ ap (λ (l : M.History). scan l q t) (leaves s));
-        nodes = a.nodes z ∙ (single-enters (ran s) (allowed s) q t
+        entry = a.entry z ∙ ap (map entry_of) (single_scans (ran s) (allowed s) q t z ∙ ap (λ (l : M.History). scan l q t) (leaves s));
+        nodes = a.nodes z ∙ (single_enters (ran s) (allowed s) q t
             ∙ (ap (λ (l : M.History). cond (ongoing l q t) 0 (tally t (made (ran s)))) (leaves s)
             ∙ ap (λ (ns : List Node). cond (ongoing (story s) q t) 0 (tally t ns)) (builds s)));
       })
@@ -128,44 +128,44 @@ module _ (s : Sequence) where
     unfolding step
     full-step = ap (λ (b : Bool). cond b (asks (now s) t) (now s, says R.NotOpen)) (known s).begun
 
-    all-answered : h.attributes ≤ length (now s).answer / entrySize
-        → FullAnswered (ran s) t (full_of h t (now s).nodes (now s).table (length (now s).answer)) (now s).answer (fullWritten h t (now s).nodes (now s).table (now s).answer)
-    all-answered room = full-answered (allowed s) (fitting s) (mirrored s) t (now s).answer room
+    all-answered : h.attributes ≤ length (now s).answer / entry_size
+        → FullAnswered (ran s) t (full_of h t (now s).nodes (now s).table (length (now s).answer)) (now s).answer (full_written h t (now s).nodes (now s).table (now s).answer)
+    all-answered room = full_answered (allowed s) (fitting s) (mirrored s) t (now s).answer room
 
-    pub asked-all : Between s t → refuseFull (left (ran s)) t ≡ 0
-    asked-all b = let m = mirrored s in
+    pub asked_all : Between s t → refuse_full (left (ran s)) t ≡ 0
+    asked_all b = let m = mirrored s in
         rw (le-leb (left (ran s)).start t (omega (arith, m.start, b.0)), le-leb t (left (ran s)).latest (omega (arith, m.latest, b.1)))
 
   pub full-tells : FullTells s
   full-tells t b room = rw (full-step t) (
-      let z = asked-all t b in
+      let z = asked_all t b in
       let a = all-answered t (omega arith) in
-      let v = full-said (ran s) (allowed s) t z in
+      let v = full_said (ran s) (allowed s) t z in
       record {
-        accepted = zero-nothing _ (a.number ∙ z);
+        accepted = zero_nothing _ (a.number ∙ z);
         intervals = (Q.full (ran s).shape (left (ran s)) t).found;
         written = a.written z;
         quarks = v.0 ∙ ap (λ (l : M.History). upto l.attributes) (leaves s);
-        values = v.1 ∙ ap (λ (cs : List M.Call). allSaid cs t (history s.start s.attributes cs).attributes) (known s).took;
+        values = v.1 ∙ ap (λ (cs : List M.Call). all_said cs t (history s.start s.attributes cs).attributes) (known s).took;
       })
 
   -- an answer that is too short is refused
-  long-answer : (t : ℕ) → fullRefusal h t (now s).nodes (now s).table (length (now s).answer) ≡ R.Nothing → h.attributes ≤ length (now s).answer / entrySize
-  unfolding fullRefusal
-  long-answer t ok = go (ltb (length (now s).answer / entrySize) h.attributes) refl
+  long-answer : (t : ℕ) → full_refusal h t (now s).nodes (now s).table (length (now s).answer) ≡ R.Nothing → h.attributes ≤ length (now s).answer / entry_size
+  unfolding full_refusal
+  long-answer t ok = go (ltb (length (now s).answer / entry_size) h.attributes) refl
     where
-      go : (b : Bool) → ltb (length (now s).answer / entrySize) h.attributes ≡ b → h.attributes ≤ length (now s).answer / entrySize
-      go false e = ltb-false (length (now s).answer / entrySize) h.attributes e
+      go : (b : Bool) → ltb (length (now s).answer / entry_size) h.attributes ≡ b → h.attributes ≤ length (now s).answer / entry_size
+      go false e = ltb-false (length (now s).answer / entry_size) h.attributes e
       go true e = let z : ◌≡◌ {A = ℕ} 0 1 = cc (simp ((mirrored s).whole, (mirrored s).long, e) at ok) in absurd (omega arith)
 
   pub full-scanned : FullScans s
   unfolding number_of full_of
   full-scanned t ok =
-      let refused : fullRefusal h t (now s).nodes (now s).table (length (now s).answer) ≡ R.Nothing = ap (λ (x : State × Answer). x.1.refusal) (sym (full-step t)) ∙ ok in
+      let refused : full_refusal h t (now s).nodes (now s).table (length (now s).answer) ≡ R.Nothing = ap (λ (x : State × Answer). x.1.refusal) (sym (full-step t)) ∙ ok in
       let a = all-answered t (long-answer t refused) in
-      let z : refuseFull (left (ran s)) t ≡ 0 = sym a.number ∙ ap number_of refused in
+      let z : refuse_full (left (ran s)) t ≡ 0 = sym a.number ∙ ap number_of refused in
       rw (full-step t) (record {
-        entries = a.written z ∙ ap (λ (xs : List Interval). sets (now s).answer 0 (spread entryBytes (map entry_of xs)))
-            (full-scans (ran s) (allowed s) t z ∙ ap (λ (l : M.History). scans l t l.attributes) (leaves s));
-        nodes = a.nodes z ∙ (full-enters (ran s) (allowed s) t ∙ ap (tally t) (builds s));
+        entries = a.written z ∙ ap (λ (xs : List Interval). sets (now s).answer 0 (spread entry_bytes (map entry_of xs)))
+            (full_scans (ran s) (allowed s) t z ∙ ap (λ (l : M.History). scans l t l.attributes) (leaves s));
+        nodes = a.nodes z ∙ (full_enters (ran s) (allowed s) t ∙ ap (tally t) (builds s));
       })

@@ -1,33 +1,33 @@
 -- The demands, proved. Assumes nothing.
 use Rattle.demands.specs.Demands.{Demand1, Demand2, Demand3}
 use Rattle.demands.proofs.Settled.{settled}
-use Rattle.demands.proofs.Kept.{refused-keeps, refused-unwritten}
-use Rattle.demands.proofs.Exactly.{list-exactly, exactly, feed-exactly, numbers-differ}
+use Rattle.demands.proofs.Kept.{refused_keeps, refused_unwritten}
+use Rattle.demands.proofs.Exactly.{list_exactly, exactly, feed_exactly, numbers_differ}
 use Rattle.demands.proofs.Answers.{numbers-said, single-tells, full-tells, single-scanned, full-scanned}
-use Rattle.demands.proofs.Exported.{exported-tells, exported-tells-all}
-use Rattle.demands.proofs.Closed.{rebuilt, closed-nodes}
-use Rattle.demands.proofs.Ran.{every-run, each-call}
+use Rattle.demands.proofs.Exported.{exported_tells, exported_tells_all}
+use Rattle.demands.proofs.Closed.{rebuilt, closed_nodes}
+use Rattle.demands.proofs.Ran.{every_run, each_call}
 
-pub demand-1 : Demand1
-demand-1 = record {
+pub demand_1 : Demand1
+demand_1 = record {
   settled = settled;
-  kept = refused-keeps;
-  unwritten = refused-unwritten;
-  lists = list-exactly;
+  kept = refused_keeps;
+  unwritten = refused_unwritten;
+  lists = list_exactly;
   exactly = exactly;
-  feeds = feed-exactly;
-  numbers = numbers-differ;
+  feeds = feed_exactly;
+  numbers = numbers_differ;
 }
 
-pub demand-2 : Demand2
-demand-2 = record {
+pub demand_2 : Demand2
+demand_2 = record {
   numbers = numbers-said;
   single = single-tells;
   full = full-tells;
-  exported = exported-tells;
-  exported-all = exported-tells-all;
-  every = every-run;
+  exported = exported_tells;
+  exported_all = exported_tells_all;
+  every = every_run;
 }
 
-pub demand-3 : Demand3
-demand-3 = record { each = each-call; rebuilt = rebuilt; closed = closed-nodes; single = single-scanned; full = full-scanned }
+pub demand_3 : Demand3
+demand_3 = record { each = each_call; rebuilt = rebuilt; closed = closed_nodes; single = single-scanned; full = full-scanned }

@@ -1,6 +1,6 @@
 -- The examples, by computation.
 use mathlib.Core.Path.{refl}
-use Rattle.demands.specs.Examples.{Holds, Examples, E1, E2, E3, E4, E5, E6, E7, E8, E9, E10-16, E10-17, E10-15}
+use Rattle.demands.specs.Examples.{Holds, Examples, E1, E2, E3, E4, E5, E6, E7, E8, E9, E10_16, E10_17, E10_15}
 use Rattle.demands.proofs.Computing.{computing}
 
 e1 : Holds E1
@@ -39,18 +39,18 @@ e9 : Holds E9
 unfolding computing
 e9 = record { said = refl; left = tt }
 
-e10-16 : Holds E10-16
+e10_16 : Holds E10_16
 unfolding computing
-e10-16 = record { said = refl; left = refl }
+e10_16 = record { said = refl; left = refl }
 
-e10-17 : Holds E10-17
+e10_17 : Holds E10_17
 unfolding computing
-e10-17 = record { said = refl; left = tt }
+e10_17 = record { said = refl; left = tt }
 
-e10-15 : Holds E10-15
+e10_15 : Holds E10_15
 unfolding computing
-e10-15 = record { said = refl; left = tt }
+e10_15 = record { said = refl; left = tt }
 
 -- E1 to E10
 pub examples : Examples
-examples = (e1, (e2, (e3, (e4, (e5, (e6, (e7, (e8, (e9, (e10-16, (e10-17, (e10-15, tt))))))))))))
+examples = (e1, (e2, (e3, (e4, (e5, (e6, (e7, (e8, (e9, (e10_16, (e10_17, (e10_15, tt))))))))))))

@@ -5,9 +5,9 @@ use mathlib.Core.List.{List}
 use native.Mathlib.Omega.{arith}
 use lib.ListN.{drop}
 use Rattle.layout.specs.declared.Shape.{Shape}
-use Rattle.layout.specs.Layout.{nodeSize}
+use Rattle.layout.specs.Layout.{node_size}
 use Rattle.record.specs.Record.{History}
-use Rattle.record.proofs.Facts.{sound-shape, sound-numbers}
+use Rattle.record.proofs.Facts.{sound_shape, sound_numbers}
 use Rattle.model.specs.Transient as M
 use Rattle.model.specs.Transient.{history}
 use Rattle.model.specs.Nodes as N
@@ -16,23 +16,23 @@ use Rattle.model.specs.Theorems.{Run, Allowed, left, tree, made, Calls64}
 use Rattle.represents.specs.Represents.{shape_of}
 use Rattle.represents.specs.Histories.{Opening, run_of, Stands}
 use Rattle.represents.specs.Mirrors.{Mirrors}
-use Rattle.represents.proofs.Proved.{record-sound, buffers-long}
-use Rattle.represents.proofs.Shown.{same_shape, same-used, same_bytes, same-root}
+use Rattle.represents.proofs.Proved.{record_sound, buffers_long}
+use Rattle.represents.proofs.Shown.{same_shape, same_used, same_bytes, same_root}
 use Rattle.demands.specs.Sequences.{Sequence, now, story, afresh}
 use Rattle.demands.proofs.Standing.{opened, known}
 
 module _ (p : Opening) (cs : List M.Call) (h : History) (b table : List ℕ) (at : Stands p cs h b table) where
   pub mirrors : Mirrors (run_of p cs) h b table
-  mirrors = let r = same-root p cs h b table at in record {
-    whole = record-sound p cs h b table at;
-    long = buffers-long p cs h b table at;
+  mirrors = let r = same_root p cs h b table at in record {
+    whole = record_sound p cs h b table at;
+    long = buffers_long p cs h b table at;
     shape = same_shape p cs h b table at;
     start = at.shows.start;
     latest = at.shows.latest;
     attributes = at.shows.attributes;
     finished = at.shows.finished;
-    used = same-used p cs h b table at;
-    rest = drop ((tree (run_of p cs)).used * nodeSize p.shape) b;
+    used = same_used p cs h b table at;
+    rest = drop ((tree (run_of p cs)).used * node_size p.shape) b;
     bytes = same_bytes p cs h b table at;
     root = r.0;
     below = r.1;
@@ -44,9 +44,9 @@ module _ (p : Opening) (cs : List M.Call) (h : History) (b table : List ℕ) (at
 
   pub allows : Allowed (run_of p cs)
   allows =
-      let w = record-sound p cs h b table at in
-      let f = sound-shape h w in
-      let n = sound-numbers h w in
+      let w = record_sound p cs h b table at in
+      let f = sound_shape h w in
+      let n = sound_numbers h w in
       let e = at.shows.shape in
       record {
         shaped = record { intervals = omega (arith, f.some, ap (λ (s : Shape). s.k) e); children = omega (arith, f.two, ap (λ (s : Shape). s.c) e) };

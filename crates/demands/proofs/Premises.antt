@@ -6,12 +6,12 @@ use mathlib.Core.List.{List, [], ◌∷◌, ◌++◌}
 use native.Mathlib.Omega.{arith}
 use lib.IntN.{pos}
 use lib.ListN.{length, replicate}
-use Rattle.layout.specs.Layout.{entrySize, nodeSize, readHeader}
+use Rattle.layout.specs.Layout.{entry_size, node_size, read_header}
 use Rattle.record.specs.declared.Refusal.TheVariants.{Nothing}
 use Rattle.model.specs.State.{int}
 use Rattle.model.specs.Questions.{said}
 use Rattle.demands.specs.Runs.{Call, set, remove, finish, single, full, step}
-use Rattle.demands.specs.Sequences.{begins, Fits, Sequence, now, taken, acceptedOf}
+use Rattle.demands.specs.Sequences.{begins, Fits, Sequence, now, taken, accepted_of}
 use Rattle.demands.specs.Examples.{fresh, E1}
 use Rattle.demands.specs.Demands.{Between}
 use Rattle.demands.proofs.Computing.{computing}
@@ -48,16 +48,16 @@ finished = record {
 
 -- a question about q0 at 25, and its answer: 2, the value of its last change
 pub asked : (0 < (now finished).history.attributes) × Between finished 25 × (said (taken finished) 0 25 ≡ int (pos 2))
-unfolding computing finished said acceptedOf
+unfolding computing finished said accepted_of
 asked = (omega arith, (omega arith, omega arith), refl)
 
 -- and of all attributes, where the answer's bytes are enough; the exported question may be asked
-pub asked-all : (entrySize * (now finished).history.attributes ≤ length (now finished).answer) × ((now finished).history.finished ≡ true) × (40 ≤ length {A = ℕ} (replicate 40 0))
+pub asked_all : (entry_size * (now finished).history.attributes ≤ length (now finished).answer) × ((now finished).history.finished ≡ true) × (40 ≤ length {A = ℕ} (replicate 40 0))
 unfolding computing finished
-asked-all = (omega arith, refl, omega arith)
+asked_all = (omega arith, refl, omega arith)
 
 -- before finish, node 0 is closed, and a change may follow
-pub closed : (0 < (now going).history.used) × ((readHeader (now going).nodes (0 * nodeSize going.shape)).state ≡ 2) × (begins (set 41 1 (pos 7)) (now going) ≡ false) × Fits (set 41 1 (pos 7))
+pub closed : (0 < (now going).history.used) × ((read_header (now going).nodes (0 * node_size going.shape)).state ≡ 2) × (begins (set 41 1 (pos 7)) (now going) ≡ false) × Fits (set 41 1 (pos 7))
 unfolding computing going
 closed = (omega arith, refl, refl, omega arith)
 

@@ -5,24 +5,24 @@ use mathlib.Core.Logic.{◌⊎◌, inl, inr}
 use mathlib.Core.List.{List, [], ◌∷◌, ◌++◌, append_assoc, append-nil}
 use Rattle.record.specs.declared.Refusal.TheVariants as R
 use Rattle.record.specs.Refusals.{accepted}
-use Rattle.calls.proofs.Refused.{accepted-nothing}
-use Rattle.demands.specs.Runs.{Call, opening, set, remove, increment, add, finish, single, full, State, Answer, says, ifBegun, told, answered as asks, step, run}
+use Rattle.calls.proofs.Refused.{accepted_nothing}
+use Rattle.demands.specs.Runs.{Call, opening, set, remove, increment, add, finish, single, full, State, Answer, says, if_begun, told, answered as asks, step, run}
 use Rattle.demands.specs.Sequences.{begins, One, Fits, AllFit, first}
 use Rattle.demands.specs.Demands.{LastOpening, EveryRun, EachCall}
-use Rattle.demands.proofs.Kept.{refused-keeps}
+use Rattle.demands.proofs.Kept.{refused_keeps}
 
 -- ---- cut short
 
-one-cut : (done rest : List Call) (σ : State) → One (done ++ rest) σ → One done σ
-one-cut [] rest σ a = tt
-one-cut (c ∷ done) rest σ a = (a.0, one-cut done rest (step c σ).0 a.1)
+one_cut : (done rest : List Call) (σ : State) → One (done ++ rest) σ → One done σ
+one_cut [] rest σ a = tt
+one_cut (c ∷ done) rest σ a = (a.0, one_cut done rest (step c σ).0 a.1)
 
 fit_cut : (done rest : List Call) → AllFit (done ++ rest) → AllFit done
 fit_cut [] rest a = tt
 fit_cut (c ∷ done) rest a = (a.0, fit_cut done rest a.1)
 
-pub each-call : EachCall
-each-call s done rest e = (
+pub each_call : EachCall
+each_call s done rest e = (
   record {
     before = s.before;
     start = s.start;
@@ -30,7 +30,7 @@ each-call s done rest e = (
     shape = s.shape;
     calls = done;
     accepted = s.accepted;
-    one = one-cut done rest (first s) (subst (λ (cs : List Call). One cs (first s)) e s.one);
+    one = one_cut done rest (first s) (subst (λ (cs : List Call). One cs (first s)) e s.one);
     fit = fit_cut done rest (subst AllFit e s.fit);
   },
   refl,
@@ -53,9 +53,9 @@ unfolding run
 one_more [] c σ a b = (b, tt)
 one_more (d ∷ cs) c σ a b = (a.0, one_more cs c (step d σ).0 a.1 b)
 
-fit-more : (cs : List Call) (c : Call) → AllFit cs → Fits c → AllFit (cs ++ c ∷ [])
-fit-more [] c a b = (b, tt)
-fit-more (d ∷ cs) c a b = (a.0, fit-more cs c a.1 b)
+fit_more : (cs : List Call) (c : Call) → AllFit cs → Fits c → AllFit (cs ++ c ∷ [])
+fit_more [] c a b = (b, tt)
+fit_more (d ∷ cs) c a b = (a.0, fit_more cs c a.1 b)
 
 -- ---- the last opening
 
@@ -70,7 +70,7 @@ module _ (cs : List Call) (σ : State) where
       attributes = attributes;
       shape = shape;
       calls = [];
-      accepted = accepted-nothing (step (opening start attributes shape) (run cs σ)).1.refusal e;
+      accepted = accepted_nothing (step (opening start attributes shape) (run cs σ)).1.refusal e;
       one = tt;
       fit = tt;
     };
@@ -100,7 +100,7 @@ module _ (cs : List Call) (σ : State) where
           calls = s.calls ++ c ∷ [];
           accepted = s.accepted;
           one = one_more s.calls c (first s) s.one (ap (begins c) l.left ∙ going);
-          fit = fit-more s.calls c s.fit fit;
+          fit = fit_more s.calls c s.fit fit;
         };
         before = l.before;
         split =
@@ -112,12 +112,12 @@ module _ (cs : List Call) (σ : State) where
 -- ---- before an opening is accepted
 
 -- "15 no history open": nothing else is done
-unbegun : (σ : State) (x : State × Answer) → σ.begun ≡ false → (ifBegun σ x).0 ≡ σ
+unbegun : (σ : State) (x : State × Answer) → σ.begun ≡ false → (if_begun σ x).0 ≡ σ
 unbegun σ x b = ap (λ (z : Bool). (cond {A = State × Answer} z x (σ, says R.NotOpen)).0) b
 
 idle : (c : Call) (σ : State) → σ.begun ≡ false → begins c σ ≡ false → (step c σ).0 ≡ σ
 unfolding step
-idle (opening start attributes shape) σ b e = (refused-keeps (opening start attributes shape) σ e).0
+idle (opening start attributes shape) σ b e = (refused_keeps (opening start attributes shape) σ e).0
 idle (set t q v) σ b e = unbegun σ _ b
 idle (remove t q) σ b e = unbegun σ _ b
 idle (increment t q) σ b e = unbegun σ _ b
@@ -144,6 +144,6 @@ module _ (σ : State) (b : σ.begun ≡ false) where
   all_more [] done fit e = subst (Ever σ) (sym (append-nil done)) e
   all_more (c ∷ rest) done fit e = subst (Ever σ) (append_assoc done (c ∷ []) rest) (all_more rest (done ++ c ∷ []) fit.1 (more done c fit.0 e))
 
-pub every-run : EveryRun
+pub every_run : EveryRun
 unfolding run
-every-run cs σ b fit = all_more σ b cs [] fit (inl refl)
+every_run cs σ b fit = all_more σ b cs [] fit (inl refl)

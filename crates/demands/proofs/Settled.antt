@@ -2,7 +2,7 @@
 use mathlib.Core.Path.{◌≡◌, sym, ap, ◌∙◌}
 use Rattle.layout.specs.declared.Shape.{Shape}
 use Rattle.calls.specs.Outcome.{Outcome}
-use Rattle.calls.proofs.Kept.{comes-once}
+use Rattle.calls.proofs.Kept.{comes_once}
 use Rattle.demands.specs.Demands.{Settles, EquationSettles, Promised, Settled}
 
 pub equal : EquationSettles
@@ -19,7 +19,7 @@ module _ {A B : Type 0} where
 -- a call's
 call : (o : Outcome) (s : Shape) → Settles (Promised s o)
 call o s x y e f =
-    let g = comes-once o s x.refusal y.refusal x.words y.words x.nodes y.nodes x.table y.table e f in
+    let g = comes_once o s x.refusal y.refusal x.words y.words x.nodes y.nodes x.table y.table e f in
     λ i. record { refusal = g.0 i; words = g.1 i; nodes = g.2 i; table = g.3 i }
 
 pub settled : Settled
@@ -32,8 +32,8 @@ settled = record {
   finish = λ s w t nodes table. call _ _;
   single = λ h t q nodes table. equal _ _;
   full = λ h t nodes table b. both _ _;
-  history-single = λ v t q nodes b. both _ _;
-  history-full = λ v t nodes b. both _ _;
-  record-at = λ l p. equal _ _;
+  history_single = λ v t q nodes b. both _ _;
+  history_full = λ v t nodes b. both _ _;
+  record_at = λ l p. equal _ _;
   moved = λ l p. both _ _;
 }

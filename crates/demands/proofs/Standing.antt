@@ -8,43 +8,43 @@ use Rattle.record.specs.declared.Refusal.{Refusal}
 use Rattle.record.specs.declared.Refusal.TheVariants as R
 use Rattle.record.specs.Refusals.{number_of, accepted}
 use Rattle.calls.specs.Outcome.{Outcome}
-use Rattle.calls.specs.Open.{openOf}
+use Rattle.calls.specs.Open.{open_of}
 use Rattle.model.specs.Transient as M
 use Rattle.model.specs.Refusals as MR
 use Rattle.model.specs.Theorems as T
 use Rattle.model.specs.Theorems.{Calls64}
 use Rattle.represents.specs.Histories.{Opening, run_of, Stands}
-use Rattle.represents.specs.Calls.{outcomeOf}
-use Rattle.represents.specs.Theorems.{openingOf}
-use Rattle.represents.proofs.Proved.{open-stands, call-answers, call-stands}
-use Rattle.demands.specs.Runs.{Call, opening, set, remove, increment, add, finish, single, full, State, Answer, says, ifBegun, follows, told, answered as asks, step, run}
-use Rattle.demands.specs.Sequences.{modelled, acceptedOf, begins, One, Fits, AllFit, Sequence, first, now, taken}
-use Rattle.demands.proofs.Kept.{refused-keeps}
+use Rattle.represents.specs.Calls.{outcome_of}
+use Rattle.represents.specs.Theorems.{opening_of}
+use Rattle.represents.proofs.Proved.{open_stands, call_answers, call_stands}
+use Rattle.demands.specs.Runs.{Call, opening, set, remove, increment, add, finish, single, full, State, Answer, says, if_begun, follows, told, answered as asks, step, run}
+use Rattle.demands.specs.Sequences.{modelled, accepted_of, begins, One, Fits, AllFit, Sequence, first, now, taken}
+use Rattle.demands.proofs.Kept.{refused_keeps}
 
 -- a number is 0 where the call is accepted
-zero-accepted : (r : Refusal) → eqb (number_of r) 0 ≡ accepted r
+zero_accepted : (r : Refusal) → eqb (number_of r) 0 ≡ accepted r
 unfolding number_of
-zero-accepted R.Nothing = refl
-zero-accepted R.Numbers = refl
-zero-accepted R.Short = refl
-zero-accepted R.Damaged = refl
-zero-accepted R.Finished = refl
-zero-accepted R.Early = refl
-zero-accepted R.Outside = refl
-zero-accepted R.NoQuark = refl
-zero-accepted R.TableFull = refl
-zero-accepted R.Top = refl
-zero-accepted R.Deep = refl
-zero-accepted R.NoRoom = refl
-zero-accepted R.NoTag = refl
-zero-accepted R.WrongLength = refl
-zero-accepted R.Cut = refl
-zero-accepted R.NotOpen = refl
-zero-accepted R.LongFeed = refl
+zero_accepted R.Nothing = refl
+zero_accepted R.Numbers = refl
+zero_accepted R.Short = refl
+zero_accepted R.Damaged = refl
+zero_accepted R.Finished = refl
+zero_accepted R.Early = refl
+zero_accepted R.Outside = refl
+zero_accepted R.NoQuark = refl
+zero_accepted R.TableFull = refl
+zero_accepted R.Top = refl
+zero_accepted R.Deep = refl
+zero_accepted R.NoRoom = refl
+zero_accepted R.NoTag = refl
+zero_accepted R.WrongLength = refl
+zero_accepted R.Cut = refl
+zero_accepted R.NotOpen = refl
+zero_accepted R.LongFeed = refl
 
-same-either : {A : Type 0} (b : Bool) (x : A) → cond b x x ≡ x
-same-either true x = refl
-same-either false x = refl
+same_either : {A : Type 0} (b : Bool) (x : A) → cond b x x ≡ x
+same_either true x = refl
+same_either false x = refl
 
 module _ (p : Opening) where
   -- A history is open; record and buffers stand for some calls; and of these the model accepts the calls in `done`.
@@ -59,62 +59,62 @@ module _ (p : Opening) where
   After ms done x = Known x.0 (cond (accepted x.1.refusal) (ms ++ done) done)
 
   module _ (σ : State) (done : List M.Call) (k : Known σ done) where
-    while-begun : (ms : List M.Call) (x : State × Answer) → After ms done x → After ms done (ifBegun σ x)
-    while-begun ms x a = subst (λ (b : Bool). After ms done (cond b x (σ, says R.NotOpen))) (sym k.begun) a
+    while_begun : (ms : List M.Call) (x : State × Answer) → After ms done x → After ms done (if_begun σ x)
+    while_begun ms x a = subst (λ (b : Bool). After ms done (cond b x (σ, says R.NotOpen))) (sym k.begun) a
 
     -- set, remove, increment, add and finish
-    called : (m : M.Call) → Calls64 (m ∷ []) → After (m ∷ []) done (follows σ (outcomeOf m σ.history σ.nodes σ.table))
+    called : (m : M.Call) → Calls64 (m ∷ []) → After (m ∷ []) done (follows σ (outcome_of m σ.history σ.nodes σ.table))
     unfolding MR.accepted
     called m fit =
-        let o = outcomeOf m σ.history σ.nodes σ.table in
+        let o = outcome_of m σ.history σ.nodes σ.table in
         let a = T.taken (run_of p k.calls) in
         record {
           begun = refl;
           calls = m ∷ k.calls;
-          at = call-stands p k.calls σ.history σ.nodes σ.table k.at m fit;
+          at = call_stands p k.calls σ.history σ.nodes σ.table k.at m fit;
           took =
-              ap (λ (n : ℕ). cond (eqb n 0) (m ∷ a) a) (sym (call-answers p k.calls σ.history σ.nodes σ.table k.at m fit))
-              ∙ ap (λ (b : Bool). cond b (m ∷ a) a) (zero-accepted o.answer.refusal)
+              ap (λ (n : ℕ). cond (eqb n 0) (m ∷ a) a) (sym (call_answers p k.calls σ.history σ.nodes σ.table k.at m fit))
+              ∙ ap (λ (b : Bool). cond b (m ∷ a) a) (zero_accepted o.answer.refusal)
               ∙ ap (λ (z : List M.Call). cond (accepted o.answer.refusal) (m ∷ z) z) k.took;
         }
 
     -- a question
     asked : (x : State × Answer) → Known x.0 done → After [] done x
-    asked x l = subst (λ (z : List M.Call). Known x.0 z) (sym (same-either (accepted x.1.refusal) done)) l
+    asked x l = subst (λ (z : List M.Call). Known x.0 z) (sym (same_either (accepted x.1.refusal) done)) l
 
     stepped : (c : Call) → begins c σ ≡ false → Fits c → After (modelled c) done (step c σ)
     unfolding step
     stepped (opening start attributes shape) going fit =
-        asked (step (opening start attributes shape) σ) (subst (λ (z : State). Known z done) (sym (refused-keeps (opening start attributes shape) σ going).0) k)
-    stepped (set t q v) going fit = while-begun (M.change t q (M.set v) ∷ []) _ (called (M.change t q (M.set v)) (fit, tt))
-    stepped (remove t q) going fit = while-begun (M.change t q M.remove ∷ []) _ (called (M.change t q M.remove) (tt, tt))
-    stepped (increment t q) going fit = while-begun (M.change t q M.increment ∷ []) _ (called (M.change t q M.increment) (tt, tt))
-    stepped add going fit = while-begun (M.add ∷ []) _ (called M.add tt)
-    stepped (finish t) going fit = while-begun (M.finish t ∷ []) _ (called (M.finish t) tt)
-    stepped (single t q) going fit = while-begun [] (told σ t q) (asked (told σ t q) k)
-    stepped (full t) going fit = while-begun [] (asks σ t) (asked (asks σ t) (record { begun = refl; calls = k.calls; at = k.at; took = k.took }))
+        asked (step (opening start attributes shape) σ) (subst (λ (z : State). Known z done) (sym (refused_keeps (opening start attributes shape) σ going).0) k)
+    stepped (set t q v) going fit = while_begun (M.change t q (M.set v) ∷ []) _ (called (M.change t q (M.set v)) (fit, tt))
+    stepped (remove t q) going fit = while_begun (M.change t q M.remove ∷ []) _ (called (M.change t q M.remove) (tt, tt))
+    stepped (increment t q) going fit = while_begun (M.change t q M.increment ∷ []) _ (called (M.change t q M.increment) (tt, tt))
+    stepped add going fit = while_begun (M.add ∷ []) _ (called M.add tt)
+    stepped (finish t) going fit = while_begun (M.finish t ∷ []) _ (called (M.finish t) tt)
+    stepped (single t q) going fit = while_begun [] (told σ t q) (asked (told σ t q) k)
+    stepped (full t) going fit = while_begun [] (asks σ t) (asked (asks σ t) (record { begun = refl; calls = k.calls; at = k.at; took = k.took }))
 
-  pub known-run : (cs : List Call) (σ : State) (done : List M.Call) → Known σ done → One cs σ → AllFit cs → Known (run cs σ) (acceptedOf cs σ done)
-  unfolding run acceptedOf
-  known-run [] σ done k one fit = k
-  known-run (c ∷ cs) σ done k one fit = known-run cs (step c σ).0 _ (stepped σ done k c one.0 fit.0) one.1 fit.1
+  pub known_run : (cs : List Call) (σ : State) (done : List M.Call) → Known σ done → One cs σ → AllFit cs → Known (run cs σ) (accepted_of cs σ done)
+  unfolding run accepted_of
+  known_run [] σ done k one fit = k
+  known_run (c ∷ cs) σ done k one fit = known_run cs (step c σ).0 _ (stepped σ done k c one.0 fit.0) one.1 fit.1
 
 -- the opening of a sequence
 abbrev pub opened : Sequence → Opening
-opened s = openingOf s.start s.attributes s.shape s.before.table
+opened s = opening_of s.start s.attributes s.shape s.before.table
 
 opens : (σ : State) (o : Outcome) (b : Bool) → accepted o.answer.refusal ≡ b → (cond b (follows σ o) (σ, says o.answer.refusal)).1.refusal ≡ R.Nothing
     → (o.answer.refusal ≡ R.Nothing) × ((cond b (follows σ o) (σ, says o.answer.refusal)).0 ≡ (follows σ o).0)
 opens σ o true a e = (e, refl)
 opens σ o false a e = absurd (false≢true (sym a ∙ ap accepted e))
 
-pub first-known : (s : Sequence) → Known (opened s) (first s) []
+pub first_known : (s : Sequence) → Known (opened s) (first s) []
 unfolding step number_of MR.accepted
-first-known s =
-    let o = openOf s.start s.attributes s.shape s.before.nodes s.before.table in
+first_known s =
+    let o = open_of s.start s.attributes s.shape s.before.nodes s.before.table in
     let z = opens s.before o (accepted o.answer.refusal) refl s.accepted in
     subst (λ (σ : State). Known (opened s) σ []) (sym z.1)
-    (record { begun = refl; calls = []; at = open-stands s.start s.attributes s.shape s.before.nodes s.before.table (ap number_of z.0); took = refl })
+    (record { begun = refl; calls = []; at = open_stands s.start s.attributes s.shape s.before.nodes s.before.table (ap number_of z.0); took = refl })
 
 pub known : (s : Sequence) → Known (opened s) (now s) (taken s)
-known s = known-run (opened s) s.calls (first s) [] (first-known s) s.one s.fit
+known s = known_run (opened s) s.calls (first s) [] (first_known s) s.one s.fit

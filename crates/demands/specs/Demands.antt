@@ -4,35 +4,35 @@ use Rattle.std.proofs.lemmas.List.Edits.{sets}
 use Rattle.words.specs.Words.{le}
 use Rattle.layout.specs.declared.Shape.{Shape}
 use Rattle.layout.specs.declared.Quark.{Quark}
-use Rattle.layout.specs.Layout.{entrySize, nodeSize, entryBytes, spread, readHeader}
-use Rattle.record.specs.Record.{History, recordOf}
+use Rattle.layout.specs.Layout.{entry_size, node_size, entry_bytes, spread, read_header}
+use Rattle.record.specs.Record.{History, record_of}
 use Rattle.record.specs.declared.Refusal.{Refusal}
 use Rattle.record.specs.declared.Refusal.TheVariants.{Nothing}
 use Rattle.record.specs.Refusals.{number_of, accepted, first_of}
-use Rattle.record.specs.Levels.{placeAt}
+use Rattle.record.specs.Levels.{place_at}
 use Rattle.transient.specs.declared.Change.TheVariants.{Set, Remove, Increment}
 use Rattle.calls.specs.Outcome.{Outcome, Comes}
 use Rattle.calls.specs.Exactly.{Given, Iff}
-use Rattle.calls.specs.Open.{openOn}
-use Rattle.calls.specs.Change.{changeOf}
-use Rattle.calls.specs.Add.{addOf}
-use Rattle.calls.specs.Finish.{finishOf}
+use Rattle.calls.specs.Open.{open_on}
+use Rattle.calls.specs.Change.{change_of}
+use Rattle.calls.specs.Add.{add_of}
+use Rattle.calls.specs.Finish.{finish_of}
 use Rattle.walk.specs.declared.View.{View}
 use Rattle.questions.specs.declared.Single.{Single}
 use Rattle.full_question.specs.declared.Full.{Full}
-use Rattle.questions.specs.Single.{singleOf}
-use Rattle.full_question.specs.Full.{full_of, fullWritten}
+use Rattle.questions.specs.Single.{single_of}
+use Rattle.full_question.specs.Full.{full_of, full_written}
 use Rattle.page.specs.Page as P
 use Rattle.feed.specs.declared.Reading.{Reading}
 use Rattle.feed.specs.declared.Reading.TheVariants as F
-use Rattle.feed.specs.Feed.{readingAt}
+use Rattle.feed.specs.Feed.{reading_at}
 use Rattle.model.specs.Transient.{Interval}
 use Rattle.model.specs.Nodes.{upto}
 use Rattle.model.specs.Questions.{ongoing, scan, scans, tally, said}
-use Rattle.model.specs.Theorems.{allSaid}
+use Rattle.model.specs.Theorems.{all_said}
 use Rattle.represents.specs.Represents.{entry_of, bytes_of}
 use Rattle.demands.specs.Runs.{Call, opening, single, full, State, Answer, says, step, run}
-use Rattle.demands.specs.Tests.{Test, testsOf, feedTests}
+use Rattle.demands.specs.Tests.{Test, tests_of, feed_tests}
 use Rattle.demands.specs.Sequences.{begins, Fits, AllFit, Sequence, first, now, taken, story, afresh}
 
 -- ═══════ Demand 1 ═══════
@@ -64,21 +64,21 @@ Promised s o x = Comes x.refusal s x.words x.nodes x.table o
 -- One line for each public function, with the promise that it is proved to keep: of its answer, and of every byte that it could write. (The functions of `questions`
 -- and `full_question` that only `page` and their own files call promise an equation too.)
 pub record Settled : Type 0 where
-  pub opening : (start attributes : ℕ) (shape : Shape) (w nodes table : List ℕ) → Settles (Promised shape (openOn (recordOf shape w) start attributes shape nodes table))
-  pub set : (s : Shape) (w : List ℕ) (t : ℕ) (q : Quark) (v : ℤ) (nodes table : List ℕ) → Settles (Promised s (changeOf (recordOf s w) t q (Set v) nodes table))
-  pub remove : (s : Shape) (w : List ℕ) (t : ℕ) (q : Quark) (nodes table : List ℕ) → Settles (Promised s (changeOf (recordOf s w) t q Remove nodes table))
-  pub increment : (s : Shape) (w : List ℕ) (t : ℕ) (q : Quark) (nodes table : List ℕ) → Settles (Promised s (changeOf (recordOf s w) t q Increment nodes table))
-  pub add : (s : Shape) (w nodes table : List ℕ) → Settles (Promised s (addOf (recordOf s w) nodes table))
-  pub finish : (s : Shape) (w : List ℕ) (t : ℕ) (nodes table : List ℕ) → Settles (Promised s (finishOf (recordOf s w) t nodes table))
-  pub single : (h : History) (t : ℕ) (q : Quark) (nodes table : List ℕ) → Settles {A = Single} (λ a. a ≡ singleOf h t q nodes table)
+  pub opening : (start attributes : ℕ) (shape : Shape) (w nodes table : List ℕ) → Settles (Promised shape (open_on (record_of shape w) start attributes shape nodes table))
+  pub set : (s : Shape) (w : List ℕ) (t : ℕ) (q : Quark) (v : ℤ) (nodes table : List ℕ) → Settles (Promised s (change_of (record_of s w) t q (Set v) nodes table))
+  pub remove : (s : Shape) (w : List ℕ) (t : ℕ) (q : Quark) (nodes table : List ℕ) → Settles (Promised s (change_of (record_of s w) t q Remove nodes table))
+  pub increment : (s : Shape) (w : List ℕ) (t : ℕ) (q : Quark) (nodes table : List ℕ) → Settles (Promised s (change_of (record_of s w) t q Increment nodes table))
+  pub add : (s : Shape) (w nodes table : List ℕ) → Settles (Promised s (add_of (record_of s w) nodes table))
+  pub finish : (s : Shape) (w : List ℕ) (t : ℕ) (nodes table : List ℕ) → Settles (Promised s (finish_of (record_of s w) t nodes table))
+  pub single : (h : History) (t : ℕ) (q : Quark) (nodes table : List ℕ) → Settles {A = Single} (λ a. a ≡ single_of h t q nodes table)
   pub full : (h : History) (t : ℕ) (nodes table b : List ℕ)
-      → Settles {A = Full × List ℕ} (λ x. (x.0 ≡ full_of h t nodes table (length b)) × (x.1 ≡ fullWritten h t nodes table b))
-  pub history-single : (v : View) (t q : ℕ) (nodes b : List ℕ)
-      → Settles {A = ℕ × List ℕ} (λ x. (x.0 ≡ number_of (P.singleRefusal v t q nodes (length b))) × (x.1 ≡ P.singleWritten v t q nodes b))
-  pub history-full : (v : View) (t : ℕ) (nodes b : List ℕ)
-      → Settles {A = ℕ × List ℕ} (λ x. (x.0 ≡ number_of (P.fullRefusal v t nodes (length b))) × (x.1 ≡ P.fullWritten v t nodes b))
+      → Settles {A = Full × List ℕ} (λ x. (x.0 ≡ full_of h t nodes table (length b)) × (x.1 ≡ full_written h t nodes table b))
+  pub history_single : (v : View) (t q : ℕ) (nodes b : List ℕ)
+      → Settles {A = ℕ × List ℕ} (λ x. (x.0 ≡ number_of (P.single_refusal v t q nodes (length b))) × (x.1 ≡ P.single_written v t q nodes b))
+  pub history_full : (v : View) (t : ℕ) (nodes b : List ℕ)
+      → Settles {A = ℕ × List ℕ} (λ x. (x.0 ≡ number_of (P.full_refusal v t nodes (length b))) × (x.1 ≡ P.full_written v t nodes b))
   -- of the feed: record_at, read_at and next; then new, at place 0, and moved
-  pub record-at : (l : List ℕ) (p : ℕ) → Settles {A = Reading} (λ r. r ≡ readingAt l p)
+  pub record_at : (l : List ℕ) (p : ℕ) → Settles {A = Reading} (λ r. r ≡ reading_at l p)
   pub moved : (l : List ℕ) (p : ℕ) → Settles {A = List ℕ × ℕ} (λ f. (f.0 ≡ l) × (f.1 ≡ p))
 
 -- ═══ "A refused call returns its number, hands the history's record back unaltered and writes to no buffer." ═══
@@ -90,8 +90,8 @@ RefusedKeeps = (c : Call) (σ : State) → accepted (step c σ).1.refusal ≡ fa
 -- The exported questions return the number alone, and then leave the answer's bytes as they were.
 abbrev pub RefusedUnwritten : Type 0
 RefusedUnwritten = (v : View) (t q : ℕ) (nodes b : List ℕ)
-    → (accepted (P.singleRefusal v t q nodes (length b)) ≡ false → P.singleWritten v t q nodes b ≡ b)
-    × (accepted (P.fullRefusal v t nodes (length b)) ≡ false → P.fullWritten v t nodes b ≡ b)
+    → (accepted (P.single_refusal v t q nodes (length b)) ≡ false → P.single_written v t q nodes b ≡ b)
+    × (accepted (P.full_refusal v t nodes (length b)) ≡ false → P.full_written v t nodes b ≡ b)
 
 -- ═══ "It tests its own input and names its refusal"; "Each number is given exactly then" ═══
 
@@ -99,19 +99,19 @@ RefusedUnwritten = (v : View) (t q : ℕ) (nodes b : List ℕ)
 abbrev pub ListExactly : Type 0
 ListExactly = (tests : List Test) (r : Refusal) → Iff (first_of tests ≡ r) (Given tests Nothing r)
 
--- Of every call in every state: `testsOf` has its tests, in document 01's order.
+-- Of every call in every state: `tests_of` has its tests, in document 01's order.
 abbrev pub Exactly : Type 0
-Exactly = (c : Call) (σ : State) (r : Refusal) → Iff ((step c σ).1.refusal ≡ r) (Given (testsOf c σ) Nothing r)
+Exactly = (c : Call) (σ : State) (r : Refusal) → Iff ((step c σ).1.refusal ≡ r) (Given (tests_of c σ) Nothing r)
 
 -- the refusal of a reading
-abbrev pub refusalOf : Reading → Refusal
-refusalOf F.End = Nothing
-refusalOf (F.Read r p) = Nothing
-refusalOf (F.Refused n p) = n
+abbrev pub refusal_of : Reading → Refusal
+refusal_of F.End = Nothing
+refusal_of (F.Read r p) = Nothing
+refusal_of (F.Refused n p) = n
 
 -- Of every feed, at every place before its end.
 abbrev pub FeedExactly : Type 0
-FeedExactly = (l : List ℕ) (p : ℕ) → p < length l → (r : Refusal) → Iff (refusalOf (readingAt l p) ≡ r) (Given (feedTests l p) Nothing r)
+FeedExactly = (l : List ℕ) (p : ℕ) → p < length l → (r : Refusal) → Iff (refusal_of (reading_at l p) ≡ r) (Given (feed_tests l p) Nothing r)
 
 -- No two answers have the same number.
 abbrev pub NumbersDiffer : Type 0
@@ -159,31 +159,31 @@ SingleTells s = (q t : ℕ) → q < (now s).history.attributes → Between s t �
 pub record AllTold (s : Sequence) (t : ℕ) (a : Answer) (b : List ℕ) : Type 0 where
   pub accepted : a.refusal ≡ Nothing
   pub intervals : List Interval
-  pub written : b ≡ sets (now s).answer 0 (spread entryBytes (map entry_of intervals))
+  pub written : b ≡ sets (now s).answer 0 (spread entry_bytes (map entry_of intervals))
   pub quarks : map (λ x. x.quark) intervals ≡ upto (story s).attributes
-  pub values : map (λ x. x.state) intervals ≡ allSaid (taken s) t (story s).attributes
+  pub values : map (λ x. x.state) intervals ≡ all_said (taken s) t (story s).attributes
 
 abbrev pub FullTells : Sequence → Type 0
-FullTells s = (t : ℕ) → Between s t → entrySize * (now s).history.attributes ≤ length (now s).answer
+FullTells s = (t : ℕ) → Between s t → entry_size * (now s).history.attributes ≤ length (now s).answer
     → let x = step (full t) (now s) in AllTold s t x.1 x.0.answer
 
 -- "For the page server": on the numbers and the nodes that a finished history left, the exported questions say the same, and write the nodes entered, then the entries.
 abbrev pub numbers : Sequence → View
 numbers s = let h = (now s).history in
-    P.finishedView h.start h.latest h.attributes h.shape.k h.shape.c h.shape.n h.used (placeAt h.branch h.top) h.top
+    P.finished_view h.start h.latest h.attributes h.shape.k h.shape.c h.shape.n h.used (place_at h.branch h.top) h.top
 
 abbrev pub ExportedTells : Sequence → Type 0
 ExportedTells s = (q t : ℕ) (b : List ℕ) → (now s).history.finished ≡ true → q < (now s).history.attributes → Between s t → 40 ≤ length b
     → let a = (step (single t q) (now s)).1 in
     Told s q t a
-    × (number_of (P.singleRefusal (numbers s) t q (now s).nodes (length b)) ≡ 0)
-    × (P.singleWritten (numbers s) t q (now s).nodes b ≡ sets b 0 (le 8 a.nodes ++ entryBytes a.entry))
+    × (number_of (P.single_refusal (numbers s) t q (now s).nodes (length b)) ≡ 0)
+    × (P.single_written (numbers s) t q (now s).nodes b ≡ sets b 0 (le 8 a.nodes ++ entry_bytes a.entry))
 
 abbrev pub ExportedTellsAll : Sequence → Type 0
-ExportedTellsAll s = (t : ℕ) (b : List ℕ) → (now s).history.finished ≡ true → Between s t → 8 + entrySize * (now s).history.attributes ≤ length b
-    → (number_of (P.fullRefusal (numbers s) t (now s).nodes (length b)) ≡ 0)
-    × (P.fullWritten (numbers s) t (now s).nodes b
-    ≡ sets b 0 (le 8 (tally t (afresh s)) ++ spread entryBytes (map entry_of (scans (story s) t (story s).attributes))))
+ExportedTellsAll s = (t : ℕ) (b : List ℕ) → (now s).history.finished ≡ true → Between s t → 8 + entry_size * (now s).history.attributes ≤ length b
+    → (number_of (P.full_refusal (numbers s) t (now s).nodes (length b)) ≡ 0)
+    × (P.full_written (numbers s) t (now s).nodes b
+    ≡ sets b 0 (le 8 (tally t (afresh s)) ++ spread entry_bytes (map entry_of (scans (story s) t (story s).attributes))))
 
 -- Every run, of any calls in any order: nothing was opened and nothing has changed, or what it left is what the sequence left that its last accepted opening began.
 pub record LastOpening (cs : List Call) (σ : State) : Type 0 where
@@ -201,7 +201,7 @@ pub record Demand2 : Type 0 where
   pub single : (s : Sequence) → SingleTells s
   pub full : (s : Sequence) → FullTells s
   pub exported : (s : Sequence) → ExportedTells s
-  pub exported-all : (s : Sequence) → ExportedTellsAll s
+  pub exported_all : (s : Sequence) → ExportedTellsAll s
   pub every : EveryRun
 
 -- ═══════ Demand 3 ═══════
@@ -220,13 +220,13 @@ pub record Rebuilt (s : Sequence) : Type 0 where
   pub bytes : (now s).nodes ≡ bytes_of s.shape (afresh s) ++ rest
 
 -- the bytes of the i-th node
-abbrev pub nodeAt : Sequence → ℕ → List ℕ → List ℕ
-nodeAt s i b = take (nodeSize s.shape) (drop (i * nodeSize s.shape) b)
+abbrev pub node_at : Sequence → ℕ → List ℕ → List ℕ
+node_at s i b = take (node_size s.shape) (drop (i * node_size s.shape) b)
 
 -- "No byte of a node closed before the call differs": closed is what its header says, "state u8 (1 open, 2 closed)"
 abbrev pub ClosedKept : Sequence → Type 0
 ClosedKept s = (c : Call) → begins c (now s) ≡ false → Fits c → (i : ℕ) → i < (now s).history.used
-    → (readHeader (now s).nodes (i * nodeSize s.shape)).state ≡ 2 → nodeAt s i (step c (now s)).0.nodes ≡ nodeAt s i (now s).nodes
+    → (read_header (now s).nodes (i * node_size s.shape)).state ≡ 2 → node_at s i (step c (now s)).0.nodes ≡ node_at s i (now s).nodes
 
 -- "Each accepted question answers as a scan over all intervals does. The nodes entered are as many as have bounds holding t, or none where a single question is
 -- answered by an ongoing state."
@@ -238,7 +238,7 @@ abbrev pub SingleScans : Sequence → Type 0
 SingleScans s = (q t : ℕ) → let a = (step (single t q) (now s)).1 in a.refusal ≡ Nothing → SingleScanned s q t a
 
 pub record FullScanned (s : Sequence) (t : ℕ) (a : Answer) (b : List ℕ) : Type 0 where
-  pub entries : b ≡ sets (now s).answer 0 (spread entryBytes (map entry_of (scans (story s) t (story s).attributes)))
+  pub entries : b ≡ sets (now s).answer 0 (spread entry_bytes (map entry_of (scans (story s) t (story s).attributes)))
   pub nodes : a.nodes ≡ tally t (afresh s)
 
 abbrev pub FullScans : Sequence → Type 0

@@ -4,7 +4,7 @@ use Rattle.std.specs.Prelude.{ℕ, zero, suc, ◌+◌, ◌*◌, ◌-◌, ◌^◌
 use Rattle.std.proofs.Math.Option.{Option, none, some}
 use Rattle.layout.specs.declared.Shape.{Shape}
 use Rattle.layout.specs.declared.Entry.{Entry}
-use Rattle.layout.specs.Layout.{entrySize, nodeSize, readHeader, read_entry}
+use Rattle.layout.specs.Layout.{entry_size, node_size, read_header, read_entry}
 use Rattle.record.specs.Refusals.{number_of, accepted}
 use Rattle.calls.specs.Open.{blank}
 use Rattle.demands.specs.Runs.{Call, opening, set, remove, increment, add, finish, single, full, State, Answer, step, run}
@@ -35,7 +35,7 @@ pub record Row : Type 0 where
 -- the first n entries of an answer, from the q-th on
 unfoldable pub entries : List ℕ → ℕ → ℕ → List Entry
 entries b q zero = []
-entries b q (suc n) = read_entry b (entrySize * q) ∷ entries b (q + 1) n
+entries b q (suc n) = read_entry b (entry_size * q) ∷ entries b (q + 1) n
 
 abbrev pub shown : Call → State → Answer → Said
 shown (opening start attributes shape) σ a = number (number_of a.refusal)
@@ -57,13 +57,13 @@ calls [] = []
 calls (x ∷ later) = x.0 ∷ calls later
 
 -- of the n nodes from the i-th on, each of so many bytes
-unfoldable pub boundsFrom : List ℕ → ℕ → ℕ → ℕ → List (ℕ × ℕ)
-boundsFrom b size i zero = []
-boundsFrom b size i (suc n) = let h = readHeader b (size * i) in (h.start, h.end) ∷ boundsFrom b size (i + 1) n
+unfoldable pub bounds_from : List ℕ → ℕ → ℕ → ℕ → List (ℕ × ℕ)
+bounds_from b size i zero = []
+bounds_from b size i (suc n) = let h = read_header b (size * i) in (h.start, h.end) ∷ bounds_from b size (i + 1) n
 
-unfoldable pub nodesOf : State → Nodes
-nodesOf σ =
-    let size = nodeSize σ.history.shape in record { size = size; depth = σ.history.top + 1; bounds = boundsFrom σ.nodes size 0 σ.history.used }
+unfoldable pub nodes_of : State → Nodes
+nodes_of σ =
+    let size = node_size σ.history.shape in record { size = size; depth = σ.history.top + 1; bounds = bounds_from σ.nodes size 0 σ.history.used }
 
 -- no history is open, and all buffers are zeros
 abbrev pub fresh : Row → State
@@ -71,7 +71,7 @@ fresh r = record { begun = false; history = blank; nodes = replicate r.nodes 0; 
 
 abbrev pub Left : Option Nodes → State → Type 0
 Left none σ = Unit {0}
-Left (some n) σ = nodesOf σ ≡ n
+Left (some n) σ = nodes_of σ ≡ n
 
 -- the row comes out
 pub record Holds (r : Row) : Type 0 where
@@ -188,17 +188,17 @@ E10 n attributes said left = record {
   leaves = left;
 }
 
-abbrev pub E10-16 : Row
-E10-16 = E10 16 16 ok (some (record { size = 88; depth = 16; bounds = replicate 16 (0, 0) }))
+abbrev pub E10_16 : Row
+E10_16 = E10 16 16 ok (some (record { size = 88; depth = 16; bounds = replicate 16 (0, 0) }))
 
-abbrev pub E10-17 : Row
-E10-17 = E10 16 17 (number 10) none
+abbrev pub E10_17 : Row
+E10_17 = E10 16 17 (number 10) none
 
-abbrev pub E10-15 : Row
-E10-15 = E10 15 17 (number 11) none
+abbrev pub E10_15 : Row
+E10_15 = E10 15 17 (number 11) none
 
 abbrev pub table : List Row
-table = E1 ∷ E2 ∷ E3 ∷ E4 ∷ E5 ∷ E6 ∷ E7 ∷ E8 ∷ E9 ∷ E10-16 ∷ E10-17 ∷ E10-15 ∷ []
+table = E1 ∷ E2 ∷ E3 ∷ E4 ∷ E5 ∷ E6 ∷ E7 ∷ E8 ∷ E9 ∷ E10_16 ∷ E10_17 ∷ E10_15 ∷ []
 
 -- the one theorem over it
 abbrev pub Examples : Type 0

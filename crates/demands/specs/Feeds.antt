@@ -5,7 +5,7 @@ use Rattle.feed.specs.declared.Record.{Record}
 use Rattle.feed.specs.declared.Record.TheVariants.{Open, Set, Remove, Increment, Add, Finish, Single, Full}
 use Rattle.feed.specs.declared.Reading.{Reading}
 use Rattle.feed.specs.declared.Reading.TheVariants.{End, Read, Refused}
-use Rattle.feed.specs.Feed.{longest, readingAt, recordBytes, RecordFits}
+use Rattle.feed.specs.Feed.{longest, reading_at, record_bytes, RecordFits}
 use Rattle.demands.specs.Runs.{Call, opening, set, remove, increment, add, finish, single, full}
 use Rattle.demands.specs.Sequences.{AllFit}
 
@@ -21,25 +21,25 @@ call_of (Single t q) = single t q.0
 call_of (Full t) = full t
 
 -- what is read at a place, and then what follows from the next: a refused record is "passed over"
-abbrev pub goOn : Reading → (ℕ → List Record) → List Record
-goOn End next = []
-goOn (Read r p) next = r ∷ next p
-goOn (Refused n p) next = next p
+abbrev pub go_on : Reading → (ℕ → List Record) → List Record
+go_on End next = []
+go_on (Read r p) next = r ∷ next p
+go_on (Refused n p) next = next p
 
 -- the records from place p on, in no more than n readings
-unfoldable pub recordsFrom : ℕ → List ℕ → ℕ → List Record
-recordsFrom zero l p = []
-recordsFrom (suc n) l p = goOn (readingAt l p) (recordsFrom n l)
+unfoldable pub records_from : ℕ → List ℕ → ℕ → List Record
+records_from zero l p = []
+records_from (suc n) l p = go_on (reading_at l p) (records_from n l)
 
 -- the calls of a feed: a reading takes at least a byte
 unfoldable pub calls_of : List ℕ → List Call
-calls_of l = map call_of (recordsFrom (length l) l 0)
+calls_of l = map call_of (records_from (length l) l 0)
 
 -- ═══ What is said of them ═══
 
 -- records as a feed
-abbrev pub feedOf : List Record → List ℕ
-feedOf rs = spread recordBytes rs
+abbrev pub feed_of : List Record → List ℕ
+feed_of rs = spread record_bytes rs
 
 abbrev pub AllRecordsFit : List Record → Type 0
 AllRecordsFit [] = Unit {0}
@@ -47,7 +47,7 @@ AllRecordsFit (r ∷ rs) = RecordFits r × AllRecordsFit rs
 
 -- Of records whose numbers fit their fields, in a feed that is not over-long: the calls are theirs, in their order, and no other.
 abbrev pub FeedRead : Type 0
-FeedRead = (rs : List Record) → AllRecordsFit rs → length (feedOf rs) ≤ longest → calls_of (feedOf rs) ≡ map call_of rs
+FeedRead = (rs : List Record) → AllRecordsFit rs → length (feed_of rs) ≤ longest → calls_of (feed_of rs) ≡ map call_of rs
 
 -- Of any bytes: every value that a feed sets is an i64, so that all that is said of runs and sequences is said of what any feed does.
 abbrev pub FeedFits : Type 0

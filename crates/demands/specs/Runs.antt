@@ -10,12 +10,12 @@ use Rattle.record.specs.Refusals.{accepted}
 use Rattle.transient.specs.declared.Change.{Change}
 use Rattle.transient.specs.declared.Change.TheVariants.{Set, Remove, Increment}
 use Rattle.calls.specs.Outcome.{Outcome}
-use Rattle.calls.specs.Open.{openOf}
-use Rattle.calls.specs.Change.{changeOf}
-use Rattle.calls.specs.Add.{addOf}
-use Rattle.calls.specs.Finish.{finishOf}
-use Rattle.questions.specs.Single.{singleOf}
-use Rattle.full_question.specs.Full.{full_of, fullWritten}
+use Rattle.calls.specs.Open.{open_of}
+use Rattle.calls.specs.Change.{change_of}
+use Rattle.calls.specs.Add.{add_of}
+use Rattle.calls.specs.Finish.{finish_of}
+use Rattle.questions.specs.Single.{single_of}
+use Rattle.full_question.specs.Full.{full_of, full_written}
 
 -- A call of any kind, with its numbers.
 pub data Call : Type 0 where
@@ -52,8 +52,8 @@ abbrev pub quark : ℕ → Quark
 quark q = record { 0 = q }
 
 -- "15 no history open, tags 2 to 8"
-abbrev pub ifBegun : State → State × Answer → State × Answer
-ifBegun σ done = cond σ.begun done (σ, says NotOpen)
+abbrev pub if_begun : State → State × Answer → State × Answer
+if_begun σ done = cond σ.begun done (σ, says NotOpen)
 
 -- "each given the record the last one returned"
 abbrev pub follows : State → Outcome → State × Answer
@@ -64,26 +64,26 @@ abbrev pub anew : State → Outcome → State × Answer
 anew σ o = cond (accepted o.answer.refusal) (follows σ o) (σ, says o.answer.refusal)
 
 abbrev pub changed : State → ℕ → ℕ → Change → State × Answer
-changed σ t q what = follows σ (changeOf σ.history t (quark q) what σ.nodes σ.table)
+changed σ t q what = follows σ (change_of σ.history t (quark q) what σ.nodes σ.table)
 
 abbrev pub answered : State → ℕ → State × Answer
 answered σ t = let h = σ.history in let a = full_of h t σ.nodes σ.table (length σ.answer) in (
-  record { begun = true; history = h; nodes = σ.nodes; table = σ.table; answer = fullWritten h t σ.nodes σ.table σ.answer },
+  record { begun = true; history = h; nodes = σ.nodes; table = σ.table; answer = full_written h t σ.nodes σ.table σ.answer },
   record { refusal = a.refusal; nodes = a.nodes; entry = (says Nothing).entry },
 )
 
 abbrev pub told : State → ℕ → ℕ → State × Answer
-told σ t q = let a = singleOf σ.history t (quark q) σ.nodes σ.table in (σ, record { refusal = a.refusal; nodes = a.nodes; entry = a.entry })
+told σ t q = let a = single_of σ.history t (quark q) σ.nodes σ.table in (σ, record { refusal = a.refusal; nodes = a.nodes; entry = a.entry })
 
 unfoldable pub step : Call → State → State × Answer
-step (opening start attributes shape) σ = anew σ (openOf start attributes shape σ.nodes σ.table)
-step (set t q v) σ = ifBegun σ (changed σ t q (Set v))
-step (remove t q) σ = ifBegun σ (changed σ t q Remove)
-step (increment t q) σ = ifBegun σ (changed σ t q Increment)
-step add σ = ifBegun σ (follows σ (addOf σ.history σ.nodes σ.table))
-step (finish t) σ = ifBegun σ (follows σ (finishOf σ.history t σ.nodes σ.table))
-step (single t q) σ = ifBegun σ (told σ t q)
-step (full t) σ = ifBegun σ (answered σ t)
+step (opening start attributes shape) σ = anew σ (open_of start attributes shape σ.nodes σ.table)
+step (set t q v) σ = if_begun σ (changed σ t q (Set v))
+step (remove t q) σ = if_begun σ (changed σ t q Remove)
+step (increment t q) σ = if_begun σ (changed σ t q Increment)
+step add σ = if_begun σ (follows σ (add_of σ.history σ.nodes σ.table))
+step (finish t) σ = if_begun σ (follows σ (finish_of σ.history t σ.nodes σ.table))
+step (single t q) σ = if_begun σ (told σ t q)
+step (full t) σ = if_begun σ (answered σ t)
 
 -- ═══ Calls one after the other ═══
 

@@ -25,9 +25,9 @@ modelled (single t q) = []
 modelled (full t) = []
 
 -- the calls that were answered 0, the latest first, on top of earlier ones
-unfoldable pub acceptedOf : List Call → State → List M.Call → List M.Call
-acceptedOf [] σ earlier = earlier
-acceptedOf (c ∷ later) σ earlier = let next = step c σ in acceptedOf later next.0 (cond (accepted next.1.refusal) (modelled c ++ earlier) earlier)
+unfoldable pub accepted_of : List Call → State → List M.Call → List M.Call
+accepted_of [] σ earlier = earlier
+accepted_of (c ∷ later) σ earlier = let next = step c σ in accepted_of later next.0 (cond (accepted next.1.refusal) (modelled c ++ earlier) earlier)
 
 -- ═══ One history ═══
 
@@ -82,7 +82,7 @@ now s = run s.calls (first s)
 
 -- the accepted calls; what they alone make: states, intervals, times; and the nodes that the build rule makes of it, in the order of their places
 abbrev pub taken : Sequence → List M.Call
-taken s = acceptedOf s.calls (first s) []
+taken s = accepted_of s.calls (first s) []
 
 abbrev pub story : Sequence → M.History
 story s = history s.start s.attributes (taken s)

@@ -15,7 +15,7 @@ use Rattle.words.specs.Words.{num}
 use Rattle.layout.specs.declared.Quark.{Quark}
 use Rattle.feed.specs.declared.Record.{Record}
 use Rattle.feed.specs.declared.Record.TheVariants.{Open, Set, Remove, Increment, Add, Finish, Single, Full}
-use Rattle.feed.specs.Feed.{lengthAllowed, quarkAt, open_at, set_at, Payload, payloadAt}
+use Rattle.feed.specs.Feed.{length_allowed, quark_at, open_at, set_at, Payload, payload_at}
 
 -- ---- how long
 
@@ -35,9 +35,9 @@ module _ (P : ℕ → ℕ → Type 0) (tag n : ℕ) where
   two : (t u m : ℕ) → P t m → P u m → eqb n m ≡ true → eqb tag t || eqb tag u ≡ true → P tag n
   two t u m p q f e = ⊎_elim (one t m p f) (one u m q f) (either (eqb tag t) (eqb tag u) e)
 
-  pub each-allowed : P 1 20 → P 2 20 → P 3 12 → P 4 12 → P 5 0 → P 6 8 → P 7 12 → P 8 8 → lengthAllowed tag n ≡ true → P tag n
-  unfolding lengthAllowed
-  each-allowed p₁ p₂ p₃ p₄ p₅ p₆ p₇ p₈ e =
+  pub each_allowed : P 1 20 → P 2 20 → P 3 12 → P 4 12 → P 5 0 → P 6 8 → P 7 12 → P 8 8 → length_allowed tag n ≡ true → P tag n
+  unfolding length_allowed
+  each_allowed p₁ p₂ p₃ p₄ p₅ p₆ p₇ p₈ e =
       ⊎_elim
       (λ (a : _). ⊎_elim
       (λ (b : _). ⊎_elim
@@ -51,69 +51,69 @@ module _ (P : ℕ → ℕ → Type 0) (tag n : ℕ) where
 
 -- the room that a payload of the tag has at index p
 module _ (l : List ℕ) (tag p : ℕ) (x : Payload l tag p) where
-  pub room-20 : tag ≤ 2 → p + 20 ≤ length l
-  room-20 h =
-      let m : 20 ≤ x.n = each-allowed (λ (t n : ℕ). t ≤ 2 → 20 ≤ n) tag x.n (λ h. omega arith) (λ h. omega arith) (λ h. omega arith) (λ h. omega arith) (λ h. omega arith) (λ h. omega arith) (λ h. omega arith) (λ h. omega arith) x.allowed h in
+  pub room_20 : tag ≤ 2 → p + 20 ≤ length l
+  room_20 h =
+      let m : 20 ≤ x.n = each_allowed (λ (t n : ℕ). t ≤ 2 → 20 ≤ n) tag x.n (λ h. omega arith) (λ h. omega arith) (λ h. omega arith) (λ h. omega arith) (λ h. omega arith) (λ h. omega arith) (λ h. omega arith) (λ h. omega arith) x.allowed h in
       omega (arith, x.inside)
 
-  pub room-8 : (tag ≡ 5 → ⊥) → p + 8 ≤ length l
-  room-8 h =
-      let m : 8 ≤ x.n = each-allowed (λ (t n : ℕ). (t ≡ 5 → ⊥) → 8 ≤ n) tag x.n (λ h. omega arith) (λ h. omega arith) (λ h. omega arith) (λ h. omega arith) (λ h. absurd (h refl)) (λ h. omega arith) (λ h. omega arith) (λ h. omega arith) x.allowed h in
+  pub room_8 : (tag ≡ 5 → ⊥) → p + 8 ≤ length l
+  room_8 h =
+      let m : 8 ≤ x.n = each_allowed (λ (t n : ℕ). (t ≡ 5 → ⊥) → 8 ≤ n) tag x.n (λ h. omega arith) (λ h. omega arith) (λ h. omega arith) (λ h. omega arith) (λ h. absurd (h refl)) (λ h. omega arith) (λ h. omega arith) (λ h. omega arith) x.allowed h in
       omega (arith, x.inside)
 
-  pub room-12 : (tag ≡ 5 → ⊥) → (tag ≡ 6 → ⊥) → (tag ≡ 8 → ⊥) → p + 12 ≤ length l
-  room-12 f g h =
-      let m : 12 ≤ x.n = each-allowed (λ (t n : ℕ). (t ≡ 5 → ⊥) → (t ≡ 6 → ⊥) → (t ≡ 8 → ⊥) → 12 ≤ n) tag x.n (λ f g h. omega arith) (λ f g h. omega arith) (λ f g h. omega arith) (λ f g h. omega arith) (λ f g h. absurd (f refl)) (λ f g h. absurd (g refl)) (λ f g h. omega arith) (λ f g h. absurd (h refl)) x.allowed f g h in
+  pub room_12 : (tag ≡ 5 → ⊥) → (tag ≡ 6 → ⊥) → (tag ≡ 8 → ⊥) → p + 12 ≤ length l
+  room_12 f g h =
+      let m : 12 ≤ x.n = each_allowed (λ (t n : ℕ). (t ≡ 5 → ⊥) → (t ≡ 6 → ⊥) → (t ≡ 8 → ⊥) → 12 ≤ n) tag x.n (λ f g h. omega arith) (λ f g h. omega arith) (λ f g h. omega arith) (λ f g h. omega arith) (λ f g h. absurd (f refl)) (λ f g h. absurd (g refl)) (λ f g h. omega arith) (λ f g h. absurd (h refl)) x.allowed f g h in
       omega (arith, x.inside)
 
   -- 7 is what is left
   seven : (tag ≡ 1 → ⊥) → (tag ≡ 2 → ⊥) → (tag ≡ 3 → ⊥) → (tag ≡ 4 → ⊥) → (tag ≡ 5 → ⊥) → (tag ≡ 6 → ⊥) → (tag ≡ 8 → ⊥) → tag ≡ 7
   seven =
-      each-allowed (λ (t n : ℕ). (t ≡ 1 → ⊥) → (t ≡ 2 → ⊥) → (t ≡ 3 → ⊥) → (t ≡ 4 → ⊥) → (t ≡ 5 → ⊥) → (t ≡ 6 → ⊥) → (t ≡ 8 → ⊥) → t ≡ 7) tag x.n
+      each_allowed (λ (t n : ℕ). (t ≡ 1 → ⊥) → (t ≡ 2 → ⊥) → (t ≡ 3 → ⊥) → (t ≡ 4 → ⊥) → (t ≡ 5 → ⊥) → (t ≡ 6 → ⊥) → (t ≡ 8 → ⊥) → t ≡ 7) tag x.n
       (λ a b d e f g h. absurd (a refl)) (λ a b d e f g h. absurd (b refl)) (λ a b d e f g h. absurd (d refl)) (λ a b d e f g h. absurd (e refl)) (λ a b d e f g h. absurd (f refl)) (λ a b d e f g h. absurd (g refl)) (λ a b d e f g h. refl) (λ a b d e f g h. absurd (h refl))
       x.allowed
 
 -- ---- which record
 
-pub open-read : (l : List ℕ) (p t a k c n : ℕ) → t ≡ num l p 8 → a ≡ num l (p + 8) 4 → k ≡ num l (p + 12) 2 → c ≡ num l (p + 14) 2 → n ≡ num l (p + 16) 4 → Open t a k c n ≡ open_at l p
+pub open_read : (l : List ℕ) (p t a k c n : ℕ) → t ≡ num l p 8 → a ≡ num l (p + 8) 4 → k ≡ num l (p + 12) 2 → c ≡ num l (p + 14) 2 → n ≡ num l (p + 16) 4 → Open t a k c n ≡ open_at l p
 unfolding open_at
-open-read l p t a k c n h₁ h₂ h₃ h₄ h₅ = cc
+open_read l p t a k c n h₁ h₂ h₃ h₄ h₅ = cc
 
-pub set-read : (l : List ℕ) (p t v : ℕ) (q : Quark) (z y : ℤ) → t ≡ num l p 8 → q ≡ quarkAt l (p + 8) → v ≡ num l (p + 12) 8 → z ≡ to_z w64 v → y ≡ z → Set t q y ≡ set_at l p
+pub set_read : (l : List ℕ) (p t v : ℕ) (q : Quark) (z y : ℤ) → t ≡ num l p 8 → q ≡ quark_at l (p + 8) → v ≡ num l (p + 12) 8 → z ≡ to_z w64 v → y ≡ z → Set t q y ≡ set_at l p
 unfolding set_at
-set-read l p t v q z y a b d e f = cc
+set_read l p t v q z y a b d e f = cc
 
 module _ (l : List ℕ) (tag p : ℕ) where
-  pub read-open : (r : Record) → r ≡ open_at l p → tag ≡ 1 → r ≡ payloadAt l tag p
-  unfolding payloadAt
-  read-open r f e = rw e f
+  pub read_open : (r : Record) → r ≡ open_at l p → tag ≡ 1 → r ≡ payload_at l tag p
+  unfolding payload_at
+  read_open r f e = rw e f
 
-  pub read_set : (r : Record) → r ≡ set_at l p → tag ≡ 2 → r ≡ payloadAt l tag p
-  unfolding payloadAt
+  pub read_set : (r : Record) → r ≡ set_at l p → tag ≡ 2 → r ≡ payload_at l tag p
+  unfolding payload_at
   read_set r f e = rw e f
 
-  pub read-add : tag ≡ 5 → Add ≡ payloadAt l tag p
-  unfolding payloadAt
-  read-add e = rw e
+  pub read_add : tag ≡ 5 → Add ≡ payload_at l tag p
+  unfolding payload_at
+  read_add e = rw e
 
   module _ (t : ℕ) (time : t ≡ num l p 8) where
-    pub read-finish : tag ≡ 6 → Finish t ≡ payloadAt l tag p
-    unfolding payloadAt
-    read-finish e = rw (e, time)
+    pub read_finish : tag ≡ 6 → Finish t ≡ payload_at l tag p
+    unfolding payload_at
+    read_finish e = rw (e, time)
 
-    pub read-full : tag ≡ 8 → Full t ≡ payloadAt l tag p
-    unfolding payloadAt
-    read-full e = rw (e, time)
+    pub read_full : tag ≡ 8 → Full t ≡ payload_at l tag p
+    unfolding payload_at
+    read_full e = rw (e, time)
 
-    module _ (q : Quark) (quark : q ≡ quarkAt l (p + 8)) where
-      pub read-remove : tag ≡ 3 → Remove t q ≡ payloadAt l tag p
-      unfolding payloadAt
-      read-remove e = rw (e, time, quark)
+    module _ (q : Quark) (quark : q ≡ quark_at l (p + 8)) where
+      pub read_remove : tag ≡ 3 → Remove t q ≡ payload_at l tag p
+      unfolding payload_at
+      read_remove e = rw (e, time, quark)
 
-      pub read-increment : tag ≡ 4 → Increment t q ≡ payloadAt l tag p
-      unfolding payloadAt
-      read-increment e = rw (e, time, quark)
+      pub read_increment : tag ≡ 4 → Increment t q ≡ payload_at l tag p
+      unfolding payload_at
+      read_increment e = rw (e, time, quark)
 
-      pub read-single : Payload l tag p → (tag ≡ 1 → ⊥) → (tag ≡ 2 → ⊥) → (tag ≡ 3 → ⊥) → (tag ≡ 4 → ⊥) → (tag ≡ 5 → ⊥) → (tag ≡ 6 → ⊥) → (tag ≡ 8 → ⊥) → Single t q ≡ payloadAt l tag p
-      unfolding payloadAt
-      read-single x h₁ h₂ h₃ h₄ h₅ h₆ h₈ = rw (seven l tag p x h₁ h₂ h₃ h₄ h₅ h₆ h₈, time, quark)
+      pub read_single : Payload l tag p → (tag ≡ 1 → ⊥) → (tag ≡ 2 → ⊥) → (tag ≡ 3 → ⊥) → (tag ≡ 4 → ⊥) → (tag ≡ 5 → ⊥) → (tag ≡ 6 → ⊥) → (tag ≡ 8 → ⊥) → Single t q ≡ payload_at l tag p
+      unfolding payload_at
+      read_single x h₁ h₂ h₃ h₄ h₅ h₆ h₈ = rw (seven l tag p x h₁ h₂ h₃ h₄ h₅ h₆ h₈, time, quark)

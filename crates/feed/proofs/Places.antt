@@ -1,4 +1,4 @@
--- What stands at a place: each way through `headAt`, `whole_at` and `readingAt`. Assumes nothing.
+-- What stands at a place: each way through `head_at`, `whole_at` and `reading_at`. Assumes nothing.
 use Prim.Native.Nat.{ℕ, ◌+◌, ◌-◌, ◌≤◌, ◌<◌}
 use mathlib.Core.Path.{◌≡◌, refl, sym, ◌∙◌}
 use mathlib.Core.Bool.{Bool, true, false, cond, not}
@@ -13,23 +13,23 @@ use Rattle.feed.specs.declared.Reading.{Reading}
 use Rattle.feed.specs.declared.Reading.TheVariants.{End, Read, Refused}
 use Rattle.feed.specs.declared.Head.{Head}
 use Rattle.feed.specs.declared.Head.TheVariants.{Whole, Short}
-use Rattle.feed.specs.Feed.{longest, tagKnown, lengthAllowed, tag_at, size_at, Payload, payloadAt, headAt, whole_at, readingAt}
+use Rattle.feed.specs.Feed.{longest, tag_known, length_allowed, tag_at, size_at, Payload, payload_at, head_at, whole_at, reading_at}
 
 -- ---- 14
 
 module _ (l : List ℕ) (p : ℕ) where
-  pub few-left : p < length l → length l - p < 3 → Short ≡ headAt l p
-  unfolding headAt
-  few-left g h = rw (lt-ltb (length l) (p + 3 + size_at l p) (omega arith))
+  pub few_left : p < length l → length l - p < 3 → Short ≡ head_at l p
+  unfolding head_at
+  few_left g h = rw (lt-ltb (length l) (p + 3 + size_at l p) (omega arith))
 
   module _ (n : ℕ) (size : n ≡ size_at l p) (in-feed : p < length l) where
-    pub cut-payload : length l - p < 3 + n → Short ≡ headAt l p
-    unfolding headAt
-    cut-payload h = rw (lt-ltb (length l) (p + 3 + size_at l p) (omega arith))
+    pub cut_payload : length l - p < 3 + n → Short ≡ head_at l p
+    unfolding head_at
+    cut_payload h = rw (lt-ltb (length l) (p + 3 + size_at l p) (omega arith))
 
-    pub whole-payload : (t : ℕ) → t ≡ tag_at l p → 3 + n ≤ length l - p → Whole t n ≡ headAt l p
-    unfolding headAt
-    whole-payload t e h = rw (le-ltb (length l) (p + 3 + size_at l p) (omega arith), e, size)
+    pub whole_payload : (t : ℕ) → t ≡ tag_at l p → 3 + n ≤ length l - p → Whole t n ≡ head_at l p
+    unfolding head_at
+    whole_payload t e h = rw (le-ltb (length l) (p + 3 + size_at l p) (omega arith), e, size)
 
   -- what a head that is whole says
   pub record Headed (t n : ℕ) : Type 0 where
@@ -37,8 +37,8 @@ module _ (l : List ℕ) (p : ℕ) where
     pub size : n ≡ size_at l p
     pub inside : p + 3 + n ≤ length l
 
-  pub headed : (h : Head) (t n : ℕ) → h ≡ headAt l p → h ≡ Whole t n → Headed t n
-  unfolding headAt
+  pub headed : (h : Head) (t n : ℕ) → h ≡ head_at l p → h ≡ Whole t n → Headed t n
+  unfolding head_at
   headed h t n e f = go (ltb (length l) (p + 3 + size_at l p)) refl (sym f ∙ e)
     where
       go : (b : Bool) → ltb (length l) (p + 3 + size_at l p) ≡ b → Whole t n ≡ cond b Short (Whole (tag_at l p) (size_at l p)) → Headed t n
@@ -48,8 +48,8 @@ module _ (l : List ℕ) (p : ℕ) where
           let b : n ≡ size_at l p = cc in
           record { tag = a; size = b; inside = let k : p + 3 + size_at l p ≤ length l = ltb-false _ _ i in omega arith }
 
-  pub short : (h : Head) → h ≡ headAt l p → h ≡ Short → length l < p + 3 + size_at l p
-  unfolding headAt
+  pub short : (h : Head) → h ≡ head_at l p → h ≡ Short → length l < p + 3 + size_at l p
+  unfolding head_at
   short h e f = go (ltb (length l) (p + 3 + size_at l p)) refl (sym f ∙ e)
     where
       go : (b : Bool) → ltb (length l) (p + 3 + size_at l p) ≡ b → Short ≡ cond b Short (Whole (tag_at l p) (size_at l p)) → length l < p + 3 + size_at l p
@@ -58,42 +58,42 @@ module _ (l : List ℕ) (p : ℕ) where
 
 -- ---- 12 and 13
 
-module _ (l : List ℕ) (tag p n : ℕ) (a : Bool) (known : a ≡ tagKnown tag) where
-  pub no-tag : not a ≡ true → Refused NoTag (p + n) ≡ whole_at l tag p n
+module _ (l : List ℕ) (tag p n : ℕ) (a : Bool) (known : a ≡ tag_known tag) where
+  pub no_tag : not a ≡ true → Refused NoTag (p + n) ≡ whole_at l tag p n
   unfolding whole_at
-  no-tag h = rw (← known, h)
+  no_tag h = rw (← known, h)
 
-  module _ (b : Bool) (allowed : b ≡ lengthAllowed tag n) where
-    pub wrong-length : not a ≡ false → not b ≡ true → Refused WrongLength (p + n) ≡ whole_at l tag p n
+  module _ (b : Bool) (allowed : b ≡ length_allowed tag n) where
+    pub wrong_length : not a ≡ false → not b ≡ true → Refused WrongLength (p + n) ≡ whole_at l tag p n
     unfolding whole_at
-    wrong-length g h = rw (← known, g, ← allowed, h)
+    wrong_length g h = rw (← known, g, ← allowed, h)
 
-    pub is_read : (r : Record) → r ≡ payloadAt l tag p → not a ≡ false → not b ≡ false → Read r (p + n) ≡ whole_at l tag p n
+    pub is_read : (r : Record) → r ≡ payload_at l tag p → not a ≡ false → not b ≡ false → Read r (p + n) ≡ whole_at l tag p n
     unfolding whole_at
     is_read r e g h = rw (← known, g, ← allowed, h, e)
 
-pub has-payload : (l : List ℕ) (tag p n : ℕ) (b : Bool) → b ≡ lengthAllowed tag n → not b ≡ false → p + n ≤ length l → Payload l tag p
-has-payload l tag p n b e h i = record { n = n; allowed = sym e ∙ not-false b h; inside = i }
+pub has_payload : (l : List ℕ) (tag p n : ℕ) (b : Bool) → b ≡ length_allowed tag n → not b ≡ false → p + n ≤ length l → Payload l tag p
+has_payload l tag p n b e h i = record { n = n; allowed = sym e ∙ not-false b h; inside = i }
 
 -- ---- the whole order
 
 module _ (l : List ℕ) (p : ℕ) where
-  pub at-end : length l ≤ p → End ≡ readingAt l p
-  unfolding readingAt
-  at-end h = rw (le-leb (length l) p h)
+  pub at_end : length l ≤ p → End ≡ reading_at l p
+  unfolding reading_at
+  at_end h = rw (le-leb (length l) p h)
 
   module _ (in-feed : p < length l) where
-    pub too_long : longest < length l → Refused LongFeed (length l) ≡ readingAt l p
-    unfolding readingAt
+    pub too_long : longest < length l → Refused LongFeed (length l) ≡ reading_at l p
+    unfolding reading_at
     too_long h = rw (lt-leb (length l) p in-feed, lt-ltb longest (length l) h)
 
-    module _ (fits : length l ≤ longest) (h : Head) (heads : h ≡ headAt l p) where
-      pub cut : h ≡ Short → Refused Cut (length l) ≡ readingAt l p
-      unfolding readingAt
+    module _ (fits : length l ≤ longest) (h : Head) (heads : h ≡ head_at l p) where
+      pub cut : h ≡ Short → Refused Cut (length l) ≡ reading_at l p
+      unfolding reading_at
       cut e = rw (lt-leb (length l) p in-feed, le-ltb longest (length l) fits, lt-ltb (length l) (p + 3 + size_at l p) (short l p h heads e))
 
-      pub judged : (t n : ℕ) (r : Reading) → h ≡ Whole t n → r ≡ whole_at l t (p + 3) n → r ≡ readingAt l p
-      unfolding readingAt
+      pub judged : (t n : ℕ) (r : Reading) → h ≡ Whole t n → r ≡ whole_at l t (p + 3) n → r ≡ reading_at l p
+      unfolding reading_at
       judged t n r e f =
           let k = headed l p h t n heads e in
           let a : p + 3 + size_at l p ≤ length l = omega (arith, k.size, k.inside) in

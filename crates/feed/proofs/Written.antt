@@ -13,74 +13,74 @@ use mir.Syntax.{w64}
 use mir.Val.{to_z, of_z}
 use mir.Facts.{to_z-of_z, Fits-of_z}
 use Rattle.words.specs.Words.{le, num}
-use Rattle.words.proofs.Stores.{sets-all}
-use Rattle.words.proofs.Numbers.{length-le, num-ext, num-put}
+use Rattle.words.proofs.Stores.{sets_all}
+use Rattle.words.proofs.Numbers.{length_le, num_ext, num_put}
 use Rattle.record.specs.declared.Refusal.{Refusal}
 use Rattle.record.specs.declared.Refusal.TheVariants.{NoTag, WrongLength, Cut, LongFeed}
 use Rattle.feed.specs.declared.Record.{Record}
 use Rattle.feed.specs.declared.Record.TheVariants.{Open, Set, Remove, Increment, Add, Finish, Single, Full}
 use Rattle.feed.specs.declared.Reading.{Reading}
 use Rattle.feed.specs.declared.Reading.TheVariants.{End, Read, Refused}
-use Rattle.feed.specs.Feed.{longest, tagKnown, lengthAllowed, tag_at, size_at, open_at, set_at, payloadAt, headAt, whole_at, readingAt, tag_of, payloadBytes, recordBytes, RecordFits}
-use Rattle.feed.proofs.Places.{whole-payload, is_read, judged}
+use Rattle.feed.specs.Feed.{longest, tag_known, length_allowed, tag_at, size_at, open_at, set_at, payload_at, head_at, whole_at, reading_at, tag_of, payload_bytes, record_bytes, RecordFits}
+use Rattle.feed.proofs.Places.{whole_payload, is_read, judged}
 
 -- ---- numbers behind other bytes
 
-num-skip : (xs ys : List ℕ) (k n : ℕ) → num (xs ++ ys) (length xs + k) n ≡ num ys k n
-num-skip xs ys k n = num-ext (xs ++ ys) ys (length xs + k) k n (λ i b. ap (λ (j : ℕ). get_or (xs ++ ys) j 0) (add_assoc (length xs) k i) ∙ get_or-append-add xs ys (k + i) 0)
+num_skip : (xs ys : List ℕ) (k n : ℕ) → num (xs ++ ys) (length xs + k) n ≡ num ys k n
+num_skip xs ys k n = num_ext (xs ++ ys) ys (length xs + k) k n (λ i b. ap (λ (j : ℕ). get_or (xs ++ ys) j 0) (add_assoc (length xs) k i) ∙ get_or-append-add xs ys (k + i) 0)
 
-payload-skip : (xs ys : List ℕ) (tag k : ℕ) → payloadAt (xs ++ ys) tag (length xs + k) ≡ payloadAt ys tag k
-unfolding payloadAt open_at set_at
-payload-skip xs ys tag k = simp (add_assoc, num-skip)
+payload_skip : (xs ys : List ℕ) (tag k : ℕ) → payload_at (xs ++ ys) tag (length xs + k) ≡ payload_at ys tag k
+unfolding payload_at open_at set_at
+payload_skip xs ys tag k = simp (add_assoc, num_skip)
 
 -- a number's own bytes
-num-le : (n v : ℕ) → v < 256 ^ n → num (le n v) 0 n ≡ v
-num-le n v b =
-    ap (λ (l : List ℕ). num l 0 n) (sym (sets-all (le n v) (le n v) refl))
-    ∙ num-put (le n v) 0 n v (let e : length (le n v) ≡ n = length-le n v in omega arith) b
+num_le : (n v : ℕ) → v < 256 ^ n → num (le n v) 0 n ≡ v
+num_le n v b =
+    ap (λ (l : List ℕ). num l 0 n) (sym (sets_all (le n v) (le n v) refl))
+    ∙ num_put (le n v) 0 n v (let e : length (le n v) ≡ n = length_le n v in omega arith) b
 
 -- ---- a record's own bytes
 
 record Back (r : Record) (ys : List ℕ) : Type 0 where
-  tag : num (recordBytes r ++ ys) 0 1 ≡ tag_of r
-  size : num (recordBytes r ++ ys) 1 2 ≡ length (payloadBytes r)
-  known : tagKnown (tag_of r) ≡ true
-  allowed : lengthAllowed (tag_of r) (length (payloadBytes r)) ≡ true
-  payload : payloadAt (recordBytes r ++ ys) (tag_of r) 3 ≡ r
-  long : length (recordBytes r) ≡ 3 + length (payloadBytes r)
+  tag : num (record_bytes r ++ ys) 0 1 ≡ tag_of r
+  size : num (record_bytes r ++ ys) 1 2 ≡ length (payload_bytes r)
+  known : tag_known (tag_of r) ≡ true
+  allowed : length_allowed (tag_of r) (length (payload_bytes r)) ≡ true
+  payload : payload_at (record_bytes r ++ ys) (tag_of r) 3 ≡ r
+  long : length (record_bytes r) ≡ 3 + length (payload_bytes r)
 
 back : (r : Record) (ys : List ℕ) → RecordFits r → Back r ys
-unfolding RecordFits recordBytes payloadBytes tag_of tagKnown lengthAllowed payloadAt open_at set_at num le
-back (Open start attributes k c n) ys f = record { tag = refl; size = refl; known = refl; allowed = refl; long = refl; payload = λ i. Open (num-le 8 start f.0 i) (num-le 4 attributes f.1 i) (num-le 2 k f.2 i) (num-le 2 c f.3 i) (num-le 4 n f.4 i) }
-back (Set t q v) ys f = record { tag = refl; size = refl; known = refl; allowed = refl; long = refl; payload = λ i. Set (num-le 8 t f.0 i) (record { 0 = num-le 4 q.0 f.1 i }) ((ap (to_z w64) (num-le 8 (of_z w64 v) (Fits-of_z f.2).fits) ∙ to_z-of_z f.2) i) }
-back (Remove t q) ys f = record { tag = refl; size = refl; known = refl; allowed = refl; long = refl; payload = λ i. Remove (num-le 8 t f.0 i) (record { 0 = num-le 4 q.0 f.1 i }) }
-back (Increment t q) ys f = record { tag = refl; size = refl; known = refl; allowed = refl; long = refl; payload = λ i. Increment (num-le 8 t f.0 i) (record { 0 = num-le 4 q.0 f.1 i }) }
+unfolding RecordFits record_bytes payload_bytes tag_of tag_known length_allowed payload_at open_at set_at num le
+back (Open start attributes k c n) ys f = record { tag = refl; size = refl; known = refl; allowed = refl; long = refl; payload = λ i. Open (num_le 8 start f.0 i) (num_le 4 attributes f.1 i) (num_le 2 k f.2 i) (num_le 2 c f.3 i) (num_le 4 n f.4 i) }
+back (Set t q v) ys f = record { tag = refl; size = refl; known = refl; allowed = refl; long = refl; payload = λ i. Set (num_le 8 t f.0 i) (record { 0 = num_le 4 q.0 f.1 i }) ((ap (to_z w64) (num_le 8 (of_z w64 v) (Fits-of_z f.2).fits) ∙ to_z-of_z f.2) i) }
+back (Remove t q) ys f = record { tag = refl; size = refl; known = refl; allowed = refl; long = refl; payload = λ i. Remove (num_le 8 t f.0 i) (record { 0 = num_le 4 q.0 f.1 i }) }
+back (Increment t q) ys f = record { tag = refl; size = refl; known = refl; allowed = refl; long = refl; payload = λ i. Increment (num_le 8 t f.0 i) (record { 0 = num_le 4 q.0 f.1 i }) }
 back Add ys f = record { tag = refl; size = refl; known = refl; allowed = refl; long = refl; payload = refl }
-back (Finish t) ys f = record { tag = refl; size = refl; known = refl; allowed = refl; long = refl; payload = λ i. Finish (num-le 8 t f i) }
-back (Single t q) ys f = record { tag = refl; size = refl; known = refl; allowed = refl; long = refl; payload = λ i. Single (num-le 8 t f.0 i) (record { 0 = num-le 4 q.0 f.1 i }) }
-back (Full t) ys f = record { tag = refl; size = refl; known = refl; allowed = refl; long = refl; payload = λ i. Full (num-le 8 t f i) }
+back (Finish t) ys f = record { tag = refl; size = refl; known = refl; allowed = refl; long = refl; payload = λ i. Finish (num_le 8 t f i) }
+back (Single t q) ys f = record { tag = refl; size = refl; known = refl; allowed = refl; long = refl; payload = λ i. Single (num_le 8 t f.0 i) (record { 0 = num_le 4 q.0 f.1 i }) }
+back (Full t) ys f = record { tag = refl; size = refl; known = refl; allowed = refl; long = refl; payload = λ i. Full (num_le 8 t f i) }
 
 -- ---- a written record, with any bytes before and behind it
 
-module _ (xs : List ℕ) (r : Record) (ys : List ℕ) (fits : RecordFits r) (short : length (xs ++ (recordBytes r ++ ys)) ≤ longest) where
+module _ (xs : List ℕ) (r : Record) (ys : List ℕ) (fits : RecordFits r) (short : length (xs ++ (record_bytes r ++ ys)) ≤ longest) where
   abbrev l : List ℕ
-  l = xs ++ (recordBytes r ++ ys)
+  l = xs ++ (record_bytes r ++ ys)
 
   abbrev m : ℕ
-  m = length (payloadBytes r)
+  m = length (payload_bytes r)
 
-  pub read_back : readingAt (xs ++ (recordBytes r ++ ys)) (length xs) ≡ Read r (length xs + length (recordBytes r))
+  pub read_back : reading_at (xs ++ (record_bytes r ++ ys)) (length xs) ≡ Read r (length xs + length (record_bytes r))
   read_back =
       let b = back r ys fits in
       let long : length l ≡ length xs + (3 + m + length ys) = simp (length-append, b.long) in
       let in-feed : length xs < length l = omega arith in
-      let tag : tag_of r ≡ tag_at l (length xs) = sym (ap (λ (k : ℕ). num l k 1) (sym (add-zero (length xs))) ∙ num-skip xs (recordBytes r ++ ys) 0 1 ∙ b.tag) in
-      let size : m ≡ size_at l (length xs) = sym (num-skip xs (recordBytes r ++ ys) 1 2 ∙ b.size) in
-      let whole = whole-payload l (length xs) m size in-feed (tag_of r) tag (omega arith) in
-      let payload : r ≡ payloadAt l (tag_of r) (length xs + 3) = sym (payload-skip xs (recordBytes r ++ ys) (tag_of r) 3 ∙ b.payload) in
+      let tag : tag_of r ≡ tag_at l (length xs) = sym (ap (λ (k : ℕ). num l k 1) (sym (add-zero (length xs))) ∙ num_skip xs (record_bytes r ++ ys) 0 1 ∙ b.tag) in
+      let size : m ≡ size_at l (length xs) = sym (num_skip xs (record_bytes r ++ ys) 1 2 ∙ b.size) in
+      let whole = whole_payload l (length xs) m size in-feed (tag_of r) tag (omega arith) in
+      let payload : r ≡ payload_at l (tag_of r) (length xs + 3) = sym (payload_skip xs (record_bytes r ++ ys) (tag_of r) 3 ∙ b.payload) in
       let read = is_read l (tag_of r) (length xs + 3) m true (sym b.known) true (sym b.allowed) r payload refl refl in
-      let next : length xs + 3 + m ≡ length xs + length (recordBytes r) = rw b.long (omega arith) in
-      sym (judged l (length xs) in-feed short (headAt l (length xs)) refl (tag_of r) m (Read r (length xs + 3 + m)) (sym whole) read) ∙ ap (Read r) next
+      let next : length xs + 3 + m ≡ length xs + length (record_bytes r) = rw b.long (omega arith) in
+      sym (judged l (length xs) in-feed short (head_at l (length xs)) refl (tag_of r) m (Read r (length xs + 3 + m)) (sym whole) read) ∙ ap (Read r) next
 
 -- ---- the next place
 
@@ -94,15 +94,15 @@ Goes l p End = length l ≤ p
 Goes l p (Read r q) = Ahead l p q
 Goes l p (Refused n q) = Ahead l p q
 
-goes : (l : List ℕ) (p : ℕ) → Goes l p (readingAt l p)
-unfolding readingAt whole_at
-goes l p = go (leb (length l) p) refl (ltb longest (length l)) (ltb (length l) (p + 3 + n)) refl (not (tagKnown (tag_at l p))) (not (lengthAllowed (tag_at l p) n))
+goes : (l : List ℕ) (p : ℕ) → Goes l p (reading_at l p)
+unfolding reading_at whole_at
+goes l p = go (leb (length l) p) refl (ltb longest (length l)) (ltb (length l) (p + 3 + n)) refl (not (tag_known (tag_at l p))) (not (length_allowed (tag_at l p) n))
   where
     n : ℕ
     n = size_at l p
 
     go : (a : Bool) → leb (length l) p ≡ a → (b d : Bool) → ltb (length l) (p + 3 + n) ≡ d → (e f : Bool)
-        → Goes l p (cond a End (cond b (Refused LongFeed (length l)) (cond d (Refused Cut (length l)) (cond e (Refused NoTag (p + 3 + n)) (cond f (Refused WrongLength (p + 3 + n)) (Read (payloadAt l (tag_at l p) (p + 3)) (p + 3 + n)))))))
+        → Goes l p (cond a End (cond b (Refused LongFeed (length l)) (cond d (Refused Cut (length l)) (cond e (Refused NoTag (p + 3 + n)) (cond f (Refused WrongLength (p + 3 + n)) (Read (payload_at l (tag_at l p) (p + 3)) (p + 3 + n)))))))
     go true h b d g e f = leb-true (length l) p h
     go false h true d g e f = record { past = leb-false (length l) p h; inside = omega arith }
     go false h false true g e f = record { past = leb-false (length l) p h; inside = omega arith }
@@ -110,7 +110,7 @@ goes l p = go (leb (length l) p) refl (ltb longest (length l)) (ltb (length l) (
     go false h false false g false true = record { past = omega arith; inside = ltb-false (length l) (p + 3 + n) g }
     go false h false false g false false = record { past = omega arith; inside = ltb-false (length l) (p + 3 + n) g }
 
-module _ (l : List ℕ) (p : ℕ) (x : Reading) (is : x ≡ readingAt l p) where
+module _ (l : List ℕ) (p : ℕ) (x : Reading) (is : x ≡ reading_at l p) where
   told : (y : Reading) → x ≡ y → Goes l p y
   told y e = subst (Goes l p) (sym is ∙ e) (goes l p)
 
@@ -120,5 +120,5 @@ module _ (l : List ℕ) (p : ℕ) (x : Reading) (is : x ≡ readingAt l p) where
   pub after_read : (r : Record) (q : ℕ) → x ≡ Read r q → Ahead l p q
   after_read r q e = told (Read r q) e
 
-  pub after-refused : (n : Refusal) (q : ℕ) → x ≡ Refused n q → Ahead l p q
-  after-refused n q e = told (Refused n q) e
+  pub after_refused : (n : Refusal) (q : ℕ) → x ≡ Refused n q → Ahead l p q
+  after_refused n q e = told (Refused n q) e

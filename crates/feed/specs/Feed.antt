@@ -19,12 +19,12 @@ abbrev pub longest : ℕ
 longest = 65536
 
 -- "12: unknown tag": the tags are 1 to 8
-unfoldable pub tagKnown : ℕ → Bool
-tagKnown tag = leb 1 tag && leb tag 8
+unfoldable pub tag_known : ℕ → Bool
+tag_known tag = leb 1 tag && leb tag 8
 
 -- "13: wrong length for the tag": 20 bytes for open and set, 12 for a time and a quark, 8 for a time, none for add
-unfoldable pub lengthAllowed : ℕ → ℕ → Bool
-lengthAllowed tag n =
+unfoldable pub length_allowed : ℕ → ℕ → Bool
+length_allowed tag n =
     ((eqb tag 1 || eqb tag 2) && eqb n 20)
     || ((eqb tag 3 || eqb tag 4 || eqb tag 7) && eqb n 12)
     || (eqb tag 5 && eqb n 0)
@@ -39,8 +39,8 @@ size_at l p = num l (p + 1) 2
 
 -- ═══ A payload, from index p on ═══
 
-abbrev pub quarkAt : List ℕ → ℕ → Quark
-quarkAt l p = record { 0 = num l p 4 }
+abbrev pub quark_at : List ℕ → ℕ → Quark
+quark_at l p = record { 0 = num l p 4 }
 
 -- "1 open: start u64, attributes u32, K u16, C u16, N u32."
 unfoldable pub open_at : List ℕ → ℕ → Record
@@ -48,24 +48,24 @@ open_at l p = Open (num l p 8) (num l (p + 8) 4) (num l (p + 12) 2) (num l (p + 
 
 -- "2 set: t u64, quark u32, value i64."
 unfoldable pub set_at : List ℕ → ℕ → Record
-set_at l p = Set (num l p 8) (quarkAt l (p + 8)) (to_z w64 (num l (p + 12) 8))
+set_at l p = Set (num l p 8) (quark_at l (p + 8)) (to_z w64 (num l (p + 12) 8))
 
 -- "3 remove and 4 increment: t, quark. 5 add: empty. 6 finish: t. 7 single: t, quark. 8 full: t."
-unfoldable pub payloadAt : List ℕ → ℕ → ℕ → Record
-payloadAt l tag p =
+unfoldable pub payload_at : List ℕ → ℕ → ℕ → Record
+payload_at l tag p =
     cond (eqb tag 1) (open_at l p)
     (cond (eqb tag 2) (set_at l p)
-    (cond (eqb tag 3) (Remove (num l p 8) (quarkAt l (p + 8)))
-    (cond (eqb tag 4) (Increment (num l p 8) (quarkAt l (p + 8)))
+    (cond (eqb tag 3) (Remove (num l p 8) (quark_at l (p + 8)))
+    (cond (eqb tag 4) (Increment (num l p 8) (quark_at l (p + 8)))
     (cond (eqb tag 5) Add
     (cond (eqb tag 6) (Finish (num l p 8))
-    (cond (eqb tag 7) (Single (num l p 8) (quarkAt l (p + 8)))
+    (cond (eqb tag 7) (Single (num l p 8) (quark_at l (p + 8)))
     (Full (num l p 8))))))))
 
 -- a payload of the tag stands in l from index p on, whole
 pub record Payload (l : List ℕ) (tag p : ℕ) : Type 0 where
   pub n : ℕ
-  pub allowed : lengthAllowed tag n ≡ true
+  pub allowed : length_allowed tag n ≡ true
   pub inside : p + n ≤ length l
 
 -- ═══ What stands at a place ═══
@@ -73,21 +73,21 @@ pub record Payload (l : List ℕ) (tag p : ℕ) : Type 0 where
 -- "A record with an unknown tag is answered 12 and passed over; 13 likewise": the payload of n bytes stands from index p on
 unfoldable pub whole_at : List ℕ → ℕ → ℕ → ℕ → Reading
 whole_at l tag p n =
-    cond (not (tagKnown tag)) (Refused NoTag (p + n))
-    (cond (not (lengthAllowed tag n)) (Refused WrongLength (p + n))
-    (Read (payloadAt l tag p) (p + n)))
+    cond (not (tag_known tag)) (Refused NoTag (p + n))
+    (cond (not (length_allowed tag n)) (Refused WrongLength (p + n))
+    (Read (payload_at l tag p) (p + n)))
 
 -- "The order is 16, 14, 12, 13, 15; a place at or past the feed's end has no record left"; "14 ends the feed". 15 is no matter of the feed's.
-unfoldable pub readingAt : List ℕ → ℕ → Reading
-readingAt l p =
+unfoldable pub reading_at : List ℕ → ℕ → Reading
+reading_at l p =
     cond (leb (length l) p) End
     (cond (ltb longest (length l)) (Refused LongFeed (length l))
     (cond (ltb (length l) (p + 3 + size_at l p)) (Refused Cut (length l))
     (whole_at l (tag_at l p) (p + 3) (size_at l p))))
 
 -- the test for 14 by itself: bytes past the feed's end count as zeros, so that fewer than three left are too few too
-unfoldable pub headAt : List ℕ → ℕ → Head
-headAt l p = cond (ltb (length l) (p + 3 + size_at l p)) Short (Whole (tag_at l p) (size_at l p))
+unfoldable pub head_at : List ℕ → ℕ → Head
+head_at l p = cond (ltb (length l) (p + 3 + size_at l p)) Short (Whole (tag_at l p) (size_at l p))
 
 -- ═══ A record as bytes ═══
 
@@ -101,19 +101,19 @@ tag_of (Finish t) = 6
 tag_of (Single t q) = 7
 tag_of (Full t) = 8
 
-unfoldable pub payloadBytes : Record → List ℕ
-payloadBytes (Open start attributes k c n) = le 8 start ++ (le 4 attributes ++ (le 2 k ++ (le 2 c ++ le 4 n)))
-payloadBytes (Set t q v) = le 8 t ++ (le 4 q.0 ++ le 8 (of_z w64 v))
-payloadBytes (Remove t q) = le 8 t ++ le 4 q.0
-payloadBytes (Increment t q) = le 8 t ++ le 4 q.0
-payloadBytes Add = []
-payloadBytes (Finish t) = le 8 t
-payloadBytes (Single t q) = le 8 t ++ le 4 q.0
-payloadBytes (Full t) = le 8 t
+unfoldable pub payload_bytes : Record → List ℕ
+payload_bytes (Open start attributes k c n) = le 8 start ++ (le 4 attributes ++ (le 2 k ++ (le 2 c ++ le 4 n)))
+payload_bytes (Set t q v) = le 8 t ++ (le 4 q.0 ++ le 8 (of_z w64 v))
+payload_bytes (Remove t q) = le 8 t ++ le 4 q.0
+payload_bytes (Increment t q) = le 8 t ++ le 4 q.0
+payload_bytes Add = []
+payload_bytes (Finish t) = le 8 t
+payload_bytes (Single t q) = le 8 t ++ le 4 q.0
+payload_bytes (Full t) = le 8 t
 
 -- "Records, little-endian: tag u8, payload length u16, payload."
-unfoldable pub recordBytes : Record → List ℕ
-recordBytes r = le 1 (tag_of r) ++ (le 2 (length (payloadBytes r)) ++ payloadBytes r)
+unfoldable pub record_bytes : Record → List ℕ
+record_bytes r = le 1 (tag_of r) ++ (le 2 (length (payload_bytes r)) ++ payload_bytes r)
 
 -- a record whose numbers fit their fields, and so is read back as it was written
 unfoldable pub RecordFits : Record → Type 0

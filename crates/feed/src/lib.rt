@@ -1,6 +1,6 @@
 // The feed: "Records, little-endian: tag u8, payload length u16, payload." One plain function, on a feed and a place, reads a record.
 ghost use Rattle.std.specs.Prelude.{◌≡◌, ◌+◌, ◌≤◌, ◌<◌, length};
-ghost use Rattle.feed.specs.Feed.{longest, tagKnown, lengthAllowed, quarkAt, open_at, set_at, Payload, payloadAt, headAt, whole_at, readingAt};
+ghost use Rattle.feed.specs.Feed.{longest, tag_known, length_allowed, quark_at, open_at, set_at, Payload, payload_at, head_at, whole_at, reading_at};
 
 use layout::Quark;
 use record::Refusal;
@@ -61,13 +61,13 @@ pub const LONGEST: usize = 65536;
 // ---- a record's tag and its length
 
 fn tag_known(tag: u64) -> bool
-    ensures { result ≡ tagKnown tag }
+    ensures { result ≡ tag_known tag }
 {
     (1 <= tag) & (tag <= 8)
 }
 
 fn length_allowed(tag: u64, n: usize) -> bool
-    ensures { result ≡ lengthAllowed tag n }
+    ensures { result ≡ length_allowed tag n }
 {
     (((tag == 1) | (tag == 2)) & (n == 20))
         | (((tag == 3) | (tag == 4) | (tag == 7)) & (n == 12))
@@ -79,7 +79,7 @@ fn length_allowed(tag: u64, n: usize) -> bool
 
 fn quark_at(feed: &[u8], at: usize) -> Quark
     requires { at + 4 ≤ length feed.now }
-    ensures { result ≡ quarkAt feed.now at }
+    ensures { result ≡ quark_at feed.now at }
 {
     Quark(words::get(feed, at, 4) as u32)
 }
@@ -111,7 +111,7 @@ fn set_at(feed: &[u8], at: usize) -> Record
 // The payload that stands at a place, of a tag that is known and of a length that its tag allows.
 fn payload(feed: &[u8], tag: u64, at: usize) -> Record
     requires { Payload feed.now tag at }
-    ensures { result ≡ payloadAt feed.now tag at }
+    ensures { result ≡ payload_at feed.now tag at }
 {
     if tag == 1 {
         return open_at(feed, at);
@@ -144,7 +144,7 @@ fn payload(feed: &[u8], tag: u64, at: usize) -> Record
 // 14: fewer than three bytes are left, or the payload goes past the feed's end.
 fn head_at(feed: &[u8], place: usize) -> Head
     requires { (place < length feed.now) × (length feed.now ≤ longest) }
-    ensures { result ≡ headAt feed.now place }
+    ensures { result ≡ head_at feed.now place }
 {
     let left = feed.len() - place;
     if left < 3 {
@@ -175,7 +175,7 @@ fn whole_at(feed: &[u8], tag: u64, at: usize, n: usize) -> Reading
 
 // What stands at a place of a feed. The order is 16, 14, 12, 13; a place at or past the end has no record left.
 pub fn record_at(feed: &[u8], place: usize) -> Reading
-    ensures { result ≡ readingAt feed.now place }
+    ensures { result ≡ reading_at feed.now place }
 {
     let end = feed.len();
     if end <= place {
@@ -208,7 +208,7 @@ pub fn new<'a>(bytes: &'a [u8]) -> Feed<'a>
 
 // What stands at the reader's place.
 pub fn next<'a>(f: Feed<'a>) -> Reading
-    ensures { result ≡ readingAt f.entry.bytes.now f.entry.place }
+    ensures { result ≡ reading_at f.entry.bytes.now f.entry.place }
 {
     record_at(f.bytes, f.place)
 }
@@ -225,7 +225,7 @@ pub fn moved<'a>(f: Feed<'a>, place: usize) -> Feed<'a>
 
 // The reader's way for a caller that has a plain slice and a number.
 pub fn read_at(bytes: &[u8], place: usize) -> Reading
-    ensures { result ≡ readingAt bytes.now place }
+    ensures { result ≡ reading_at bytes.now place }
 {
     next(moved(new(bytes), place))
 }

@@ -1,22 +1,22 @@
 // Finishing a history. What it comes to is defined with the other calls (calls/specs/Finish.antt).
 ghost use Rattle.std.specs.Prelude.{◌≡◌, ◌/◌, ◌≤◌, length};
-ghost use Rattle.layout.specs.Layout.{entrySize};
-ghost use Rattle.record.specs.Record.{recordOf, attributesIn};
-ghost use Rattle.record.specs.Sound.{lastTime};
+ghost use Rattle.layout.specs.Layout.{entry_size};
+ghost use Rattle.record.specs.Record.{record_of, attributes_in};
+ghost use Rattle.record.specs.Sound.{last_time};
 ghost use Rattle.record.specs.Firm.{Firm};
 ghost use Rattle.build.specs.Moves.{Room, Turns};
 ghost use Rattle.build.specs.Write.{inserted};
 ghost use Rattle.calls.specs.Outcome.{Comes};
-ghost use Rattle.calls.specs.Finish.{allSound, trial, finishRefusal, storedFrom, finishOf};
-ghost use Rattle.finishing.specs.Due.{Due, caughtUp};
+ghost use Rattle.calls.specs.Finish.{all_sound, trial, finish_refusal, stored_from, finish_of};
+ghost use Rattle.finishing.specs.Due.{Due, caught_up};
 
 use layout::{Entry, Quark, Shape};
 use record::Refusal;
 
 // Every entry below the attribute count is read, and all have to be sound.
 fn all_sound(shape: Shape, h: &[u64; 87], table: &[u8]) -> bool
-    requires { (attributesIn h.now ≤ length table.now / entrySize) × (attributesIn h.now ≤ 4096) }
-    ensures { result ≡ allSound (recordOf shape h.now) table.now }
+    requires { (attributes_in h.now ≤ length table.now / entry_size) × (attributes_in h.now ≤ 4096) }
+    ensures { result ≡ all_sound (record_of shape h.now) table.now }
 {
     let n = h[record::ATTRIBUTES] as u32;
     let start = h[record::START];
@@ -35,8 +35,8 @@ fn all_sound(shape: Shape, h: &[u64; 87], table: &[u8]) -> bool
 // The trial run: "In finish the first interval in quark order that breaks either decides, depth before room." It has the record by value,
 // a copy: nothing is written.
 fn trial(shape: Shape, h: [u64; 87], table: &[u8], t: u64) -> Refusal
-    requires { Firm (recordOf shape h) × (attributesIn h ≤ length table.now / entrySize) × (attributesIn h ≤ 4096) × (t ≤ lastTime) }
-    ensures { result ≡ trial (attributesIn h) 0 table.now t (recordOf shape h) }
+    requires { Firm (record_of shape h) × (attributes_in h ≤ length table.now / entry_size) × (attributes_in h ≤ 4096) × (t ≤ last_time) }
+    ensures { result ≡ trial (attributes_in h) 0 table.now t (record_of shape h) }
 {
     let n = h[record::ATTRIBUTES] as u32;
     let mut g = h;
@@ -57,8 +57,8 @@ const NONE: u64 = 16;
 
 // The header of the level that is due, if there is one.
 fn write_due(nodes: &mut [u8], shape: Shape, h: &[u64; 87], due: u64)
-    requires { Firm (recordOf shape h.now) × Room (recordOf shape h.now) nodes.old × Due (recordOf shape h.now) due }
-    ensures { nodes.new ≡ caughtUp (recordOf shape h.now) due nodes.old }
+    requires { Firm (record_of shape h.now) × Room (record_of shape h.now) nodes.old × Due (record_of shape h.now) due }
+    ensures { nodes.new ≡ caught_up (record_of shape h.now) due nodes.old }
 {
     if due < NONE {
         build::moves::put_head(nodes, shape, h, due, build::moves::OPEN_END, 1);
@@ -68,8 +68,8 @@ fn write_due(nodes: &mut [u8], shape: Shape, h: &[u64; 87], due: u64)
 // One interval. Where an open node takes it, that node's header is left to be written and its level returned: the next mostly goes into the same node,
 // and one header is enough for the run.
 fn store_one(nodes: &mut [u8], shape: Shape, h: &mut [u64; 87], e: Entry, due: u64) -> u64
-    requires { (length h.old ≡ 87) × Firm (recordOf shape h.old) × Room (recordOf shape h.old) nodes.old × Due (recordOf shape h.old) due × (e.end ≤ lastTime) }
-    ensures { Due (recordOf shape h.new) result × Turns shape h.old (caughtUp (recordOf shape h.old) due nodes.old) h.new (caughtUp (recordOf shape h.new) result nodes.new) (inserted e) }
+    requires { (length h.old ≡ 87) × Firm (record_of shape h.old) × Room (record_of shape h.old) nodes.old × Due (record_of shape h.old) due × (e.end ≤ last_time) }
+    ensures { Due (record_of shape h.new) result × Turns shape h.old (caught_up (record_of shape h.old) due nodes.old) h.new (caught_up (record_of shape h.new) result nodes.new) (inserted e) }
 {
     let level = settle::seek(h, e.start);
     if settle::takes(shape, h, e.start, level) {
@@ -87,8 +87,8 @@ fn store_one(nodes: &mut [u8], shape: Shape, h: &mut [u64; 87], e: Entry, due: u
 
 // "Finish at T stores, in quark order, every ongoing interval with end T."
 fn store_all(nodes: &mut [u8], table: &[u8], shape: Shape, h: &mut [u64; 87], t: u64)
-    requires { (length h.old ≡ 87) × Firm (recordOf shape h.old) × Room (recordOf shape h.old) nodes.old × (attributesIn h.old ≤ length table.now / entrySize) × (attributesIn h.old ≤ 4096) × (t ≤ lastTime) }
-    ensures { Turns shape h.old nodes.old h.new nodes.new (storedFrom (attributesIn h.old) 0 table.now t) }
+    requires { (length h.old ≡ 87) × Firm (record_of shape h.old) × Room (record_of shape h.old) nodes.old × (attributes_in h.old ≤ length table.now / entry_size) × (attributes_in h.old ≤ 4096) × (t ≤ last_time) }
+    ensures { Turns shape h.old nodes.old h.new nodes.new (stored_from (attributes_in h.old) 0 table.now t) }
 {
     let n = h[record::ATTRIBUTES] as u32;
     let mut q: u32 = 0;
@@ -103,7 +103,7 @@ fn store_all(nodes: &mut [u8], table: &[u8], shape: Shape, h: &mut [u64; 87], t:
 }
 
 fn refusal(shape: Shape, h: &[u64; 87], t: u64, nodes: usize, table: &[u8]) -> Refusal
-    ensures { (result ≡ finishRefusal (recordOf shape h.now) t nodes table.now) × (length h.now ≡ 87) }
+    ensures { (result ≡ finish_refusal (record_of shape h.now) t nodes table.now) × (length h.now ≡ 87) }
 {
     let r = record::sound::admit(shape, h, nodes, table.len());
     let Refusal::Nothing = r else {
@@ -126,7 +126,7 @@ fn refusal(shape: Shape, h: &[u64; 87], t: u64, nodes: usize, table: &[u8]) -> R
 
 // Finishes a history at t. Every refusal is found before the first write; the table is only read.
 pub fn finish(shape: Shape, h: &mut [u64; 87], t: u64, nodes: &mut [u8], table: &[u8]) -> Refusal
-    ensures { Comes result shape h.new nodes.new table.now (finishOf (recordOf shape h.old) t nodes.old table.now) }
+    ensures { Comes result shape h.new nodes.new table.now (finish_of (record_of shape h.old) t nodes.old table.now) }
 {
     let r = refusal(shape, h, t, nodes.len(), table);
     let Refusal::Nothing = r else {

@@ -7,12 +7,12 @@ use native.Mathlib.Omega.{arith}
 use lib.Dec.{eqb}
 use borrow.Author.Tests.{ne_eqb, eqb-true, eqb-false}
 use Rattle.layout.specs.declared.Entry.{Entry}
-use Rattle.layout.specs.Layout.{entrySize, entry_at, readHeader, read_entry}
+use Rattle.layout.specs.Layout.{entry_size, entry_at, read_header, read_entry}
 use Rattle.walk.specs.declared.View.{View}
 use Rattle.walk.specs.declared.Walk.{Walk}
 use Rattle.walk.specs.Rules.{broken, kept, covers}
 use Rattle.walk.specs.Walk.{place_of, step}
-use Rattle.questions.specs.Found.{many, more, noted, look, lookIn, lookAt, found}
+use Rattle.questions.specs.Found.{many, more, noted, look, look_in, look_at, found}
 
 abbrev pub After : (ℕ → ℕ) → Type 0
 After f = (s : ℕ) → (s ≡ 0 → ⊥) → f s ≡ cond (eqb (f 0) 0) s many
@@ -49,40 +49,40 @@ then f g a b s h = go (eqb (f 0) 0) refl
         let o : g (f 0) ≡ 0 → ⊥ = something g b (f 0) (eqb-false (f 0) 0 e) in
         ap g z ∙ many_more g b ∙ sym (ap (λ (y : Bool). cond y s many) (ne_eqb (g (f 0)) 0 o))
 
-noted-after : (q t p : ℕ) (e : Entry) → After (noted q t p e)
+noted_after : (q t p : ℕ) (e : Entry) → After (noted q t p e)
 unfolding noted more
-noted-after q t p e s h = go (eqb e.quark.0 q && covers t e)
+noted_after q t p e s h = go (eqb e.quark.0 q && covers t e)
   where
     go : (b : Bool) → cond b (cond (eqb s 0) (p + 1) many) s ≡ cond (eqb (cond b (p + 1) 0) 0) s many
     go true = ap (λ (y : Bool). cond y (p + 1) many) (ne_eqb s 0 h) ∙ sym (ap (λ (y : Bool). cond y s many) (ne_eqb (p + 1) 0 (λ z. omega arith)))
     go false = refl
 
-pub look-after : (l : List ℕ) (q t p n : ℕ) → After (look l q t p n)
+pub look_after : (l : List ℕ) (q t p n : ℕ) → After (look l q t p n)
 unfolding look
-look-after l q t p zero = stays
-look-after l q t p (suc n) = then (noted q t p (read_entry l p)) (look l q t (p + entrySize) n) (noted-after q t p (read_entry l p)) (look-after l q t (p + entrySize) n)
+look_after l q t p zero = stays
+look_after l q t p (suc n) = then (noted q t p (read_entry l p)) (look l q t (p + entry_size) n) (noted_after q t p (read_entry l p)) (look_after l q t (p + entry_size) n)
 
-look-at-after : (l : List ℕ) (v : View) (q t level : ℕ) (w : Walk) → After (lookAt l v q t level w)
-unfolding lookAt lookIn
-look-at-after l v q t level w s h = go (kept (broken v w level (readHeader l (place_of v w.place))))
+look_at_after : (l : List ℕ) (v : View) (q t level : ℕ) (w : Walk) → After (look_at l v q t level w)
+unfolding look_at look_in
+look_at_after l v q t level w s h = go (kept (broken v w level (read_header l (place_of v w.place))))
   where
     at : ℕ
     at = place_of v w.place + entry_at v.shape 0
 
     n : ℕ
-    n = (readHeader l (place_of v w.place)).intervals
+    n = (read_header l (place_of v w.place)).intervals
 
     go : (b : Bool) → cond b (look l q t at n s) s ≡ cond (eqb (cond b (look l q t at n 0) 0) 0) s many
-    go true = look-after l q t at n s h
+    go true = look_after l q t at n s h
     go false = refl
 
 pub found_after : (l : List ℕ) (v : View) (q t n : ℕ) (w : Walk) → After (found l v q t n w)
 unfolding found
 found_after l v q t zero w s h = refl
 found_after l v q t (suc n) w s h =
-    go w.go (then (lookAt l v q t n w) (found l v q t n (step l v t n w)) (look-at-after l v q t n w) (found_after l v q t n (step l v t n w)) s h)
+    go w.go (then (look_at l v q t n w) (found l v q t n (step l v t n w)) (look_at_after l v q t n w) (found_after l v q t n (step l v t n w)) s h)
   where
-    go : (b : Bool) → found l v q t n (step l v t n w) (lookAt l v q t n w s) ≡ cond (eqb (found l v q t n (step l v t n w) (lookAt l v q t n w 0)) 0) s many
-        → cond b (found l v q t n (step l v t n w) (lookAt l v q t n w s)) s ≡ cond (eqb (cond b (found l v q t n (step l v t n w) (lookAt l v q t n w 0)) 0) 0) s many
+    go : (b : Bool) → found l v q t n (step l v t n w) (look_at l v q t n w s) ≡ cond (eqb (found l v q t n (step l v t n w) (look_at l v q t n w 0)) 0) s many
+        → cond b (found l v q t n (step l v t n w) (look_at l v q t n w s)) s ≡ cond (eqb (cond b (found l v q t n (step l v t n w) (look_at l v q t n w 0)) 0) 0) s many
     go true e = e
     go false e = refl

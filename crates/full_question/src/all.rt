@@ -1,16 +1,16 @@
 // The full question: all attributes' states at t, in one walk.
 ghost use Rattle.std.specs.Prelude.{◌≡◌, true, false, not, ◌&&◌, ℕ, ◌+◌, ◌*◌, ◌/◌, ◌≤◌, ◌<◌, ltb, eqb, length, get_or};
 ghost use Rattle.std.proofs.lemmas.List.Edits.{sets};
-ghost use Rattle.layout.specs.Layout.{entrySize, entryName};
-ghost use Rattle.record.specs.Record.{recordOf};
+ghost use Rattle.layout.specs.Layout.{entry_size, entry_name};
+ghost use Rattle.record.specs.Record.{record_of};
 ghost use Rattle.walk.specs.View.{Roomy};
 ghost use Rattle.walk.specs.Since.{reaches};
 ghost use Rattle.walk.specs.Rules.{kept};
-ghost use Rattle.walk.specs.Walk.{allSound, walk_of};
+ghost use Rattle.walk.specs.Walk.{all_sound, walk_of};
 ghost use Rattle.questions.specs.Found.{shown};
-ghost use Rattle.questions.specs.Single.{entryFine};
-ghost use Rattle.full_question.specs.Full.{everyQuark, refusedFull, walkedFull, walkedWritten, full_of, fullWritten};
-ghost use Rattle.full_question.specs.Table.{noteIf, noteAll, foundAll, once, begun, allBegun, entryFor, entriesFrom, Readable};
+ghost use Rattle.questions.specs.Single.{entry_fine};
+ghost use Rattle.full_question.specs.Full.{every_quark, refused_full, walked_full, walked_written, full_of, full_written};
+ghost use Rattle.full_question.specs.Table.{note_if, note_all, found_all, once, begun, all_begun, entry_for, entries_from, Readable};
 
 use crate::Full;
 use layout::{Entry, Header, Quark, Shape};
@@ -21,7 +21,7 @@ use walk::{View, known, rules, steps};
 const ONGOING: u32 = 0xffff_fffe;
 
 fn refused(r: Refusal) -> Full
-    ensures { result ≡ refusedFull r }
+    ensures { result ≡ refused_full r }
 {
     Full {
         refusal: r,
@@ -31,8 +31,8 @@ fn refused(r: Refusal) -> Full
 
 // An entry at byte p that covers t is noted for its quark. Tells false where that quark has one already: R7 is broken, whatever else is found.
 fn note(found: &mut [u32], t: u64, p: usize, e: Entry) -> bool
-    requires { (p + entrySize ≤ 4294967296) × (e.quark.0 < length found.old) }
-    ensures { (result ≡ not (reaches t e && not (eqb (get_or found.old e.quark.0 0) 0))) × (result ≡ true → found.new ≡ noteIf (reaches t e) p e found.old) }
+    requires { (p + entry_size ≤ 4294967296) × (e.quark.0 < length found.old) }
+    ensures { (result ≡ not (reaches t e && not (eqb (get_or found.old e.quark.0 0) 0))) × (result ≡ true → found.new ≡ note_if (reaches t e) p e found.old) }
 {
     if rules::reaches(t, e) {
         let q = e.quark.0 as usize;
@@ -54,8 +54,8 @@ fn look(
     n: u32,
     found: &mut [u32],
 ) -> bool
-    requires { (at + entrySize * n ≤ length nodes.now) × (at + entrySize * n ≤ 4294967296) × (attributes ≤ length found.old) × (once attributes found.old ≡ true) }
-    ensures { (result ≡ (allSound nodes.now attributes h at n true && once attributes (noteAll nodes.now t at n found.old))) × (result ≡ true → found.new ≡ noteAll nodes.now t at n found.old) }
+    requires { (at + entry_size * n ≤ length nodes.now) × (at + entry_size * n ≤ 4294967296) × (attributes ≤ length found.old) × (once attributes found.old ≡ true) }
+    ensures { (result ≡ (all_sound nodes.now attributes h at n true && once attributes (note_all nodes.now t at n found.old))) × (result ≡ true → found.new ≡ note_all nodes.now t at n found.old) }
 {
     let mut i: u32 = 0;
     let mut p = at;
@@ -81,7 +81,7 @@ fn look(
 // Where a node's way goes on is found before its entries are looked at: the next node's header is on its way from memory meanwhile.
 fn gather(nodes: &[u8], v: View, t: u64, attributes: u32, found: &mut [u32]) -> u32
     requires { Roomy v nodes.now × (attributes ≡ v.attributes) × (attributes ≤ length found.old) × (once attributes found.old ≡ true) }
-    ensures { (ltb 0 result ≡ (kept (walk_of nodes.now v t).rule && once attributes (foundAll nodes.now v t found.old))) × (0 < result → (result ≡ (walk_of nodes.now v t).entered) × (found.new ≡ foundAll nodes.now v t found.old)) }
+    ensures { (ltb 0 result ≡ (kept (walk_of nodes.now v t).rule && once attributes (found_all nodes.now v t found.old))) × (0 < result → (result ≡ (walk_of nodes.now v t).entered) × (found.new ≡ found_all nodes.now v t found.old)) }
 {
     let mut w = steps::root(v);
     let mut level = v.level + 1;
@@ -126,8 +126,8 @@ fn begin(found: &mut [u32], q: u32, start: u64, t: u64)
 
 // The ongoing entries are tested, and those that start at or below t noted; once finished none is read.
 fn note_ongoing(table: &[u8], v: View, t: u64, found: &mut [u32]) -> bool
-    requires { (v.attributes ≤ length found.old) × (v.finished ≡ false → v.attributes ≤ length table.now / entrySize) }
-    ensures { (result ≡ everyQuark (λ q. entryFine v q table.now) v.attributes) × (result ≡ true → found.new ≡ allBegun v t table.now found.old) }
+    requires { (v.attributes ≤ length found.old) × (v.finished ≡ false → v.attributes ≤ length table.now / entry_size) }
+    ensures { (result ≡ every_quark (λ q. entry_fine v q table.now) v.attributes) × (result ≡ true → found.new ≡ all_begun v t table.now found.old) }
 {
     if v.finished {
         return true;
@@ -147,7 +147,7 @@ fn note_ongoing(table: &[u8], v: View, t: u64, found: &mut [u32]) -> bool
 // R7 of the first n quarks, for none of which more than one was found. It goes on past a gap: without a way out of the loop the compiler tests several numbers at once.
 fn all_one(found: &[u32], n: u32) -> bool
     requires { (n ≤ length found.now) × (once n found.now ≡ true) }
-    ensures { result ≡ everyQuark (λ q. shown (get_or found.now q 0)) n }
+    ensures { result ≡ every_quark (λ q. shown (get_or found.now q 0)) n }
 {
     let mut i: u32 = 0;
     let mut all = true;
@@ -162,7 +162,7 @@ fn all_one(found: &[u32], n: u32) -> bool
 // What answers for a quark: its ongoing state, or the entry that was found.
 fn entry_for(nodes: &[u8], table: &[u8], q: u32, s: u32) -> Entry
     requires { Readable nodes.now table.now q s }
-    ensures { result ≡ entryFor nodes.now table.now q s }
+    ensures { result ≡ entry_for nodes.now table.now q s }
 {
     if s == ONGOING {
         let o = transient::read_ongoing(table, Quark(q));
@@ -174,7 +174,7 @@ fn entry_for(nodes: &[u8], table: &[u8], q: u32, s: u32) -> Entry
 // Its quark and kind as one word.
 fn name_for(nodes: &[u8], table: &[u8], q: u32, s: u32) -> u64
     requires { Readable nodes.now table.now q s }
-    ensures { result ≡ entryName (entryFor nodes.now table.now q s) }
+    ensures { result ≡ entry_name (entry_for nodes.now table.now q s) }
 {
     if s == ONGOING {
         let o = transient::read_ongoing(table, Quark(q));
@@ -185,8 +185,8 @@ fn name_for(nodes: &[u8], table: &[u8], q: u32, s: u32) -> u64
 
 // The first word of an entry is made in both branches by itself: so it comes out whole, and an entry is four stores instead of seven.
 fn write_entries(nodes: &[u8], table: &[u8], found: &[u32], answer: &mut [u8], at: usize, n: u32)
-    requires { (n ≤ length found.now) × (at + entrySize * n ≤ length answer.old) × ((q : ℕ) → q < n → Readable nodes.now table.now q (get_or found.now q 0)) }
-    ensures { answer.new ≡ sets answer.old at (entriesFrom nodes.now table.now found.now 0 n) }
+    requires { (n ≤ length found.now) × (at + entry_size * n ≤ length answer.old) × ((q : ℕ) → q < n → Readable nodes.now table.now q (get_or found.now q 0)) }
+    ensures { answer.new ≡ sets answer.old at (entries_from nodes.now table.now found.now 0 n) }
 {
     let mut i: u32 = 0;
     let mut p = at;
@@ -212,8 +212,8 @@ fn walked_in(
     attributes: u32,
     found: &mut [u32],
 ) -> Full
-    requires { Roomy v nodes.now × (attributes ≡ v.attributes) × (v.finished ≡ false → v.attributes ≤ length table.now / entrySize) × (at + entrySize * v.attributes ≤ length answer.old) × (v.attributes ≤ length found.old) × ((q : ℕ) → q < v.attributes → get_or found.old q 0 ≡ 0) }
-    ensures { (result ≡ walkedFull v t nodes.now table.now) × (answer.new ≡ walkedWritten v t nodes.now table.now at answer.old) }
+    requires { Roomy v nodes.now × (attributes ≡ v.attributes) × (v.finished ≡ false → v.attributes ≤ length table.now / entry_size) × (at + entry_size * v.attributes ≤ length answer.old) × (v.attributes ≤ length found.old) × ((q : ℕ) → q < v.attributes → get_or found.old q 0 ≡ 0) }
+    ensures { (result ≡ walked_full v t nodes.now table.now) × (answer.new ≡ walked_written v t nodes.now table.now at answer.old) }
 {
     if !note_ongoing(table, v, t, found) {
         return refused(Refusal::Damaged);
@@ -234,8 +234,8 @@ fn walked_in(
 
 // What was found lies in an array that is not much longer than the attributes are many: clearing all 4096 numbers would cost a small history more than the walk.
 pub fn walked(v: View, t: u64, nodes: &[u8], table: &[u8], answer: &mut [u8], at: usize) -> Full
-    requires { Roomy v nodes.now × (v.finished ≡ false → v.attributes ≤ length table.now / entrySize) × (at + entrySize * v.attributes ≤ length answer.old) }
-    ensures { (result ≡ walkedFull v t nodes.now table.now) × (answer.new ≡ walkedWritten v t nodes.now table.now at answer.old) }
+    requires { Roomy v nodes.now × (v.finished ≡ false → v.attributes ≤ length table.now / entry_size) × (at + entry_size * v.attributes ≤ length answer.old) }
+    ensures { (result ≡ walked_full v t nodes.now table.now) × (answer.new ≡ walked_written v t nodes.now table.now at answer.old) }
 {
     if v.attributes <= 64 {
         let mut few = [0u32; 64];
@@ -257,7 +257,7 @@ pub fn full(
     table: &[u8],
     answer: &mut [u8],
 ) -> Full
-    ensures { (result ≡ full_of (recordOf shape h.now) t nodes.now table.now (length answer.old)) × (answer.new ≡ fullWritten (recordOf shape h.now) t nodes.now table.now answer.old) }
+    ensures { (result ≡ full_of (record_of shape h.now) t nodes.now table.now (length answer.old)) × (answer.new ≡ full_written (record_of shape h.now) t nodes.now table.now answer.old) }
 {
     if !record::sound::sound(shape, h) {
         return refused(Refusal::Damaged);

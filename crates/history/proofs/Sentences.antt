@@ -5,7 +5,7 @@ use mathlib.Core.Bool.{Bool, true, false, cond, ◌||◌}
 use mathlib.Core.List.{List}
 use lib.ListN.{length, replicate}
 use Rattle.layout.specs.declared.Shape.{Shape}
-use Rattle.record.specs.Record.{sixteen, branchOf}
+use Rattle.record.specs.Record.{sixteen, branch_of}
 use Rattle.record.specs.declared.Refusal.{Refusal}
 use Rattle.record.specs.declared.Refusal.TheVariants as R
 use Rattle.record.specs.Refusals.{accepted}
@@ -13,15 +13,15 @@ use Rattle.build.specs.Write.{planted}
 use Rattle.feed.specs.declared.Record.{Record}
 use Rattle.feed.specs.declared.Record.TheVariants.{Open}
 use Rattle.calls.specs.Outcome.{Outcome, answered, outcome}
-use Rattle.calls.specs.Open.{blank, opened, tableOpened, openRefusal, openOn, openOf}
-use Rattle.calls.proofs.Refused.{comes-refused}
+use Rattle.calls.specs.Open.{blank, opened, table_opened, open_refusal, open_on, open_of}
+use Rattle.calls.proofs.Refused.{comes_refused}
 use Rattle.history.specs.declared.step.Shown.TheVariants.{Said}
-use Rattle.history.specs.Step.{State, Done, leaving, done, stateIn, none, unopened, openedBy, after, afterOpen, opens, called, carried}
-use Rattle.history.proofs.Records.{open-refused}
+use Rattle.history.specs.Step.{State, Done, leaving, done, state_in, none, unopened, opened_by, after, after_open, opens, called, carried}
+use Rattle.history.proofs.Records.{open_refused}
 
 -- before the first record nothing is open, and the program's array of zeros is a record of zeros
-pub at_first : stateIn none (replicate 87 0) ≡ unopened
-unfolding sixteen branchOf blank
+pub at_first : state_in none (replicate 87 0) ≡ unopened
+unfolding sixteen branch_of blank
 at_first = refl
 
 module _ (s : State) (nodes table answer : List ℕ) where
@@ -36,20 +36,20 @@ module _ (s : State) (nodes table answer : List ℕ) where
     shape = record { k = k; c = c; n = n }
 
     abbrev said : Refusal
-    said = openRefusal start attributes shape (length nodes) (length table)
+    said = open_refusal start attributes shape (length nodes) (length table)
 
     -- "refused, it changes nothing"
-    pub second-refused : accepted said ≡ false → carried (Open start attributes k c n) s nodes table answer ≡ leaving (done s (Said said)) nodes table answer
-    unfolding carried opens called afterOpen openOf openOn
-    second-refused e =
-        ap (λ (x : Outcome). afterOpen s x answer) (sym (comes-refused said said refl blank nodes table _ e))
-        ∙ ap (λ (x : Done). leaving x nodes table answer) (sym (open-refused s (answered said blank) e))
+    pub second_refused : accepted said ≡ false → carried (Open start attributes k c n) s nodes table answer ≡ leaving (done s (Said said)) nodes table answer
+    unfolding carried opens called after_open open_of open_on
+    second_refused e =
+        ap (λ (x : Outcome). after_open s x answer) (sym (comes_refused said said refl blank nodes table _ e))
+        ∙ ap (λ (x : Done). leaving x nodes table answer) (sym (open_refused s (answered said blank) e))
 
     -- "A second open starts anew": what was open before is of no matter
-    pub second-anew : accepted said ≡ true → carried (Open start attributes k c n) s nodes table answer ≡ after (openOf start attributes shape nodes table) answer
-    unfolding carried opens called afterOpen openedBy after openOf openOn
-    second-anew e =
+    pub second_anew : accepted said ≡ true → carried (Open start attributes k c n) s nodes table answer ≡ after (open_of start attributes shape nodes table) answer
+    unfolding carried opens called after_open opened_by after open_of open_on
+    second_anew e =
         let h = opened start attributes shape in
-        let new = outcome (answered R.Nothing h) (planted h nodes) (tableOpened start attributes 0 table) in
-        let is : openOf start attributes shape nodes table ≡ new = ap (λ (b : Bool). cond b new (outcome (answered said blank) nodes table)) e in
-        ap (λ (x : Outcome). afterOpen s x answer) is ∙ sym (ap (λ (x : Outcome). after x answer) is)
+        let new = outcome (answered R.Nothing h) (planted h nodes) (table_opened start attributes 0 table) in
+        let is : open_of start attributes shape nodes table ≡ new = ap (λ (b : Bool). cond b new (outcome (answered said blank) nodes table)) e in
+        ap (λ (x : Outcome). after_open s x answer) is ∙ sym (ap (λ (x : Outcome). after x answer) is)

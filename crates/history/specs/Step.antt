@@ -1,8 +1,8 @@
 -- One record of a feed. Document 01, "The feed and the program": which call or question a record asks for, and what it leaves.
 use Rattle.std.specs.Prelude.{ℕ, ◌*◌, ◌≤◌, Bool, true, false, cond, ◌||◌, ◌≡◌, List, length}
-use Rattle.layout.specs.Layout.{entrySize}
+use Rattle.layout.specs.Layout.{entry_size}
 use Rattle.layout.specs.declared.Shape.{Shape}
-use Rattle.record.specs.Record.{History, recordOf}
+use Rattle.record.specs.Record.{History, record_of}
 use Rattle.record.specs.declared.Refusal.{Refusal}
 use Rattle.record.specs.declared.Refusal.TheVariants.{Nothing, NotOpen}
 use Rattle.record.specs.Refusals.{accepted}
@@ -10,12 +10,12 @@ use Rattle.transient.specs.declared.Change.TheVariants as Change
 use Rattle.feed.specs.declared.Record.{Record}
 use Rattle.feed.specs.declared.Record.TheVariants.{Open, Set, Remove, Increment, Add, Finish, Single, Full}
 use Rattle.calls.specs.Outcome.{Answer, Outcome}
-use Rattle.calls.specs.Open.{blank, openOf}
-use Rattle.calls.specs.Change.{changeOf}
-use Rattle.calls.specs.Add.{addOf}
-use Rattle.calls.specs.Finish.{finishOf}
-use Rattle.questions.specs.Single.{singleOf}
-use Rattle.full_question.specs.Full.{full_of, fullWritten}
+use Rattle.calls.specs.Open.{blank, open_of}
+use Rattle.calls.specs.Change.{change_of}
+use Rattle.calls.specs.Add.{add_of}
+use Rattle.calls.specs.Finish.{finish_of}
+use Rattle.questions.specs.Single.{single_of}
+use Rattle.full_question.specs.Full.{full_of, full_written}
 use Rattle.history.specs.declared.step.State as Code
 use Rattle.history.specs.declared.step.Shown.{Shown}
 use Rattle.history.specs.declared.step.Shown.TheVariants.{Said, One, All}
@@ -48,24 +48,24 @@ done s x = record { state = s; shown = x }
 
 -- ═══ As the program keeps it: the shape beside the record's array ═══
 
-abbrev pub stateIn : Code.State → List ℕ → State
-stateIn s w = record { opened = s.opened; history = recordOf s.shape w }
+abbrev pub state_in : Code.State → List ℕ → State
+state_in s w = record { opened = s.opened; history = record_of s.shape w }
 
-abbrev pub doneIn : Coded.Done → List ℕ → Done
-doneIn d w = done (stateIn d.state w) d.shown
+abbrev pub done_in : Coded.Done → List ℕ → Done
+done_in d w = done (state_in d.state w) d.shown
 
 abbrev pub none : Code.State
 none = record { opened = false; shape = record { k = 0; c = 0; n = 0 } }
 
-abbrev pub openAs : Shape → Code.State
-openAs s = record { opened = true; shape = s }
+abbrev pub open_as : Shape → Code.State
+open_as s = record { opened = true; shape = s }
 
 abbrev pub said_of : Code.State → Refusal → Coded.Done
 said_of s r = record { state = s; shown = Said r }
 
 -- the promise: what is left is what the definition says
 abbrev pub Leaves : Coded.Done → List ℕ → List ℕ → List ℕ → List ℕ → Carried → Type 0
-Leaves d w nodes table answer x = (length w ≡ 87) × (leaving (doneIn d w) nodes table answer ≡ x)
+Leaves d w nodes table answer x = (length w ≡ 87) × (leaving (done_in d w) nodes table answer ≡ x)
 
 -- ═══ What each answer leaves open ═══
 
@@ -77,39 +77,39 @@ abbrev pub holding : History → State
 holding h = record { opened = true; history = h }
 
 -- a call's record and its answer number
-abbrev pub doneBy : Answer → Done
-doneBy a = done (holding a.history) (Said a.refusal)
+abbrev pub done_by : Answer → Done
+done_by a = done (holding a.history) (Said a.refusal)
 
 -- "A second open starts anew; refused, it changes nothing."
-unfoldable pub openedBy : State → Answer → Done
-openedBy s a = done (cond (accepted a.refusal) (holding a.history) s) (Said a.refusal)
+unfoldable pub opened_by : State → Answer → Done
+opened_by s a = done (cond (accepted a.refusal) (holding a.history) s) (Said a.refusal)
 
 -- a call writes what it says of itself, and no answer of a full question
 unfoldable pub after : Outcome → List ℕ → Carried
-after o answer = leaving (doneBy o.answer) o.nodes o.table answer
+after o answer = leaving (done_by o.answer) o.nodes o.table answer
 
-unfoldable pub afterOpen : State → Outcome → List ℕ → Carried
-afterOpen s o answer = leaving (openedBy s o.answer) o.nodes o.table answer
+unfoldable pub after_open : State → Outcome → List ℕ → Carried
+after_open s o answer = leaving (opened_by s o.answer) o.nodes o.table answer
 
 -- ═══ A record ═══
 
 -- what each record does, once it may
 unfoldable pub called : Record → State → List ℕ → List ℕ → List ℕ → Carried
 -- "1 open: start u64, attributes u32, K u16, C u16, N u32."
-called (Open start attributes k c n) s nodes table answer = afterOpen s (openOf start attributes (record { k = k; c = c; n = n }) nodes table) answer
+called (Open start attributes k c n) s nodes table answer = after_open s (open_of start attributes (record { k = k; c = c; n = n }) nodes table) answer
 -- "2 set: t u64, quark u32, value i64."
-called (Set t q v) s nodes table answer = after (changeOf s.history t q (Change.Set v) nodes table) answer
+called (Set t q v) s nodes table answer = after (change_of s.history t q (Change.Set v) nodes table) answer
 -- "3 remove and 4 increment: t, quark."
-called (Remove t q) s nodes table answer = after (changeOf s.history t q Change.Remove nodes table) answer
-called (Increment t q) s nodes table answer = after (changeOf s.history t q Change.Increment nodes table) answer
+called (Remove t q) s nodes table answer = after (change_of s.history t q Change.Remove nodes table) answer
+called (Increment t q) s nodes table answer = after (change_of s.history t q Change.Increment nodes table) answer
 -- "5 add: empty."
-called Add s nodes table answer = after (addOf s.history nodes table) answer
+called Add s nodes table answer = after (add_of s.history nodes table) answer
 -- "6 finish: t."
-called (Finish t) s nodes table answer = after (finishOf s.history t nodes table) answer
+called (Finish t) s nodes table answer = after (finish_of s.history t nodes table) answer
 -- "7 single: t, quark.": a question changes no history
-called (Single t q) s nodes table answer = leaving (done s (One (singleOf s.history t q nodes table))) nodes table answer
+called (Single t q) s nodes table answer = leaving (done s (One (single_of s.history t q nodes table))) nodes table answer
 -- "8 full: t."
-called (Full t) s nodes table answer = leaving (done s (All (full_of s.history t nodes table (length answer)))) nodes table (fullWritten s.history t nodes table answer)
+called (Full t) s nodes table answer = leaving (done s (All (full_of s.history t nodes table (length answer)))) nodes table (full_written s.history t nodes table answer)
 
 -- tag 1
 unfoldable pub opens : Record → Bool
@@ -132,7 +132,7 @@ carried r s nodes table answer = cond (opens r || s.opened) (called r s nodes ta
 unfoldable pub EntriesOf : Shown → ℕ → ℕ → Type 0
 EntriesOf (Said r) attributes n = Unit {0}
 EntriesOf (One x) attributes n = Unit {0}
-EntriesOf (All f) attributes n = f.refusal ≡ Nothing → attributes * entrySize ≤ n
+EntriesOf (All f) attributes n = f.refusal ≡ Nothing → attributes * entry_size ≤ n
 
 abbrev pub Entries : Done → ℕ → Type 0
 Entries d n = EntriesOf d.shown d.state.history.attributes n

@@ -1,6 +1,6 @@
 // What a record is answered, as text: "Each line: record number from 0, answer number." Plain decimal, one space between, a newline at the end.
 ghost use Rattle.std.specs.Prelude.{◌≡◌, ◌*◌, ◌≤◌, length};
-ghost use Rattle.layout.specs.Layout.{entrySize};
+ghost use Rattle.layout.specs.Layout.{entry_size};
 ghost use Rattle.record.specs.declared.Refusal.TheVariants.{Nothing};
 ghost use Rattle.history.specs.Step.{EntriesOf};
 
@@ -69,7 +69,7 @@ fn attribute(q: u64, e: Entry) {
 }
 
 fn attributes(n: u64, answer: &[u8])
-    requires { n * entrySize ≤ length answer.now }
+    requires { n * entry_size ≤ length answer.now }
 {
     let mut q: u64 = 0;
     while q < n {
@@ -80,7 +80,7 @@ fn attributes(n: u64, answer: &[u8])
 
 // "Accepted full adds nodes entered, then a line per attribute"
 fn full(i: u64, f: Full, n: u64, answer: &[u8])
-    requires { f.refusal ≡ Nothing → n * entrySize ≤ length answer.now }
+    requires { f.refusal ≡ Nothing → n * entry_size ≤ length answer.now }
 {
     let r = f.refusal;
     answer_number(i, r);

@@ -1,7 +1,7 @@
 // One record of a feed carried out on the history that is open.
 ghost use Rattle.std.specs.Prelude.{◌≡◌, cond, length};
 ghost use Rattle.record.specs.Refusals.{accepted};
-ghost use Rattle.history.specs.Step.{Leaves, stateIn, none, openAs, said_of, opens, called, carried};
+ghost use Rattle.history.specs.Step.{Leaves, state_in, none, open_as, said_of, opens, called, carried};
 
 use feed::Record;
 use full_question::Full;
@@ -42,7 +42,7 @@ pub fn unopened() -> State
 
 // The history of this shape is open, whatever was answered.
 fn after(shape: Shape, said: Refusal) -> Done
-    ensures { result ≡ said_of (openAs shape) said }
+    ensures { result ≡ said_of (open_as shape) said }
 {
     Done {
         state: State {
@@ -55,7 +55,7 @@ fn after(shape: Shape, said: Refusal) -> Done
 
 // "A second open starts anew; refused, it changes nothing."
 fn after_open(s: State, shape: Shape, what: Refusal) -> Done
-    ensures { result ≡ cond (accepted what) (said_of (openAs shape) what) (said_of s what) }
+    ensures { result ≡ cond (accepted what) (said_of (open_as shape) what) (said_of s what) }
 {
     let Refusal::Nothing = what else {
         return Done {
@@ -93,7 +93,7 @@ fn call(
     answer: &mut [u8],
 ) -> Done
     requires { length h.old ≡ 87 }
-    ensures { Leaves result h.new nodes.new table.new answer.new (called r (stateIn s h.old) nodes.old table.old answer.old) }
+    ensures { Leaves result h.new nodes.new table.new answer.new (called r (state_in s h.old) nodes.old table.old answer.old) }
 {
     let shape = s.shape;
     match r {
@@ -145,7 +145,7 @@ pub fn carry_out(
     table: &mut [u8],
     answer: &mut [u8],
 ) -> Done
-    ensures { Leaves result h.new nodes.new table.new answer.new (carried r (stateIn s h.old) nodes.old table.old answer.old) }
+    ensures { Leaves result h.new nodes.new table.new answer.new (carried r (state_in s h.old) nodes.old table.old answer.old) }
 {
     let all = record::sound::entire(h); // for the proof alone
     if !(opens(r) | s.opened) {

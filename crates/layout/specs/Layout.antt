@@ -13,28 +13,28 @@ use Rattle.layout.specs.declared.First.TheVariants.{Nothing, OneChild}
 -- ═══ Where things stand ═══
 
 -- "Header, 32 bytes"
-abbrev pub headerSize : ℕ
-headerSize = 32
+abbrev pub header_size : ℕ
+header_size = 32
 
 -- "C child entries of sequence u32 and start u64"
 abbrev pub child_size : ℕ
 child_size = 12
 
 -- "K interval entries of 32 bytes"
-abbrev pub entrySize : ℕ
-entrySize = 32
+abbrev pub entry_size : ℕ
+entry_size = 32
 
 -- "Node size 32 + 12C + 32K"
-unfoldable pub nodeSize : Shape → ℕ
-nodeSize s = headerSize + child_size * s.c + entrySize * s.k
+unfoldable pub node_size : Shape → ℕ
+node_size s = header_size + child_size * s.c + entry_size * s.k
 
 -- where the i-th child entry stands in its node
-unfoldable pub childAt : ℕ → ℕ
-childAt i = headerSize + child_size * i
+unfoldable pub child_at : ℕ → ℕ
+child_at i = header_size + child_size * i
 
 -- where the i-th interval entry stands in its node
 unfoldable pub entry_at : Shape → ℕ → ℕ
-entry_at s i = headerSize + child_size * s.c + entrySize * i
+entry_at s i = header_size + child_size * s.c + entry_size * i
 
 -- ═══ The parts as bytes ═══
 
@@ -46,25 +46,25 @@ bounds h = le 8 h.start ++ (le 8 h.end ++ (le 4 h.sequence.0 ++ le 4 h.parent.0)
 unfoldable pub counts : Header → List ℕ
 counts h = le 2 h.intervals ++ (le 2 h.children ++ (le 1 h.level ++ (le 1 h.state ++ le 2 0)))
 
-unfoldable pub headerBytes : Header → List ℕ
-headerBytes h = bounds h ++ counts h
+unfoldable pub header_bytes : Header → List ℕ
+header_bytes h = bounds h ++ counts h
 
 -- "child entries of sequence u32 and start u64"
-unfoldable pub childBytes : Child → List ℕ
-childBytes c = le 4 c.sequence.0 ++ le 8 c.start
+unfoldable pub child_bytes : Child → List ℕ
+child_bytes c = le 4 c.sequence.0 ++ le 8 c.start
 
 -- "quark u32, kind u8, three zero bytes, start u64, end u64, value i64 (0 for null)"
-unfoldable pub entryBytes : Entry → List ℕ
-entryBytes e = le 4 e.quark.0 ++ (le 1 e.kind ++ (le 3 0 ++ (le 8 e.start ++ (le 8 e.end ++ le 8 (of_z w64 e.value)))))
+unfoldable pub entry_bytes : Entry → List ℕ
+entry_bytes e = le 4 e.quark.0 ++ (le 1 e.kind ++ (le 3 0 ++ (le 8 e.start ++ (le 8 e.end ++ le 8 (of_z w64 e.value)))))
 
 -- its quark and kind as one number, the quark in the lowest 32 bits
-abbrev pub entryName : Entry → ℕ
-entryName e = e.quark.0 + 4294967296 * e.kind
+abbrev pub entry_name : Entry → ℕ
+entry_name e = e.quark.0 + 4294967296 * e.kind
 
 -- ═══ The parts read, from index p of any bytes ═══
 
-abbrev pub readHeader : List ℕ → ℕ → Header
-readHeader l p = record {
+abbrev pub read_header : List ℕ → ℕ → Header
+read_header l p = record {
   start = num l p 8;
   end = num l (p + 8) 8;
   sequence = record { 0 = num l (p + 16) 4 };
@@ -75,8 +75,8 @@ readHeader l p = record {
   state = num l (p + 29) 1;
 }
 
-abbrev pub readChild : List ℕ → ℕ → Child
-readChild l p = record { sequence = record { 0 = num l p 4 }; start = num l (p + 4) 8 }
+abbrev pub read_child : List ℕ → ℕ → Child
+read_child l p = record { sequence = record { 0 = num l p 4 }; start = num l (p + 4) 8 }
 
 abbrev pub read_entry : List ℕ → ℕ → Entry
 read_entry l p = record {
@@ -96,14 +96,14 @@ pub record Node : Type 0 where
   pub entries : List Entry
 
 -- a node with another header, with one more child entry, with one more interval entry
-abbrev pub withHeader : Node → Header → Node
-withHeader n h = record { header = h; children = n.children; entries = n.entries }
+abbrev pub with_header : Node → Header → Node
+with_header n h = record { header = h; children = n.children; entries = n.entries }
 
-abbrev pub withChild : Node → Child → Node
-withChild n c = record { header = n.header; children = n.children ++ c ∷ []; entries = n.entries }
+abbrev pub with_child : Node → Child → Node
+with_child n c = record { header = n.header; children = n.children ++ c ∷ []; entries = n.entries }
 
-abbrev pub withEntry : Node → Entry → Node
-withEntry n e = record { header = n.header; children = n.children; entries = n.entries ++ e ∷ [] }
+abbrev pub with_entry : Node → Entry → Node
+with_entry n e = record { header = n.header; children = n.children; entries = n.entries ++ e ∷ [] }
 
 -- entries one after the other
 module _ {A : Type 0} where
@@ -117,22 +117,22 @@ padded n xs = take n (xs ++ replicate n 0)
 
 -- "Then C child entries", "Then K interval entries"
 unfoldable pub body : Shape → List Child → List Entry → List ℕ
-body s cs xs = padded (child_size * s.c) (spread childBytes cs) ++ padded (entrySize * s.k) (spread entryBytes xs)
+body s cs xs = padded (child_size * s.c) (spread child_bytes cs) ++ padded (entry_size * s.k) (spread entry_bytes xs)
 
 unfoldable pub encode : Shape → Node → List ℕ
-encode s n = headerBytes n.header ++ body s n.children n.entries
+encode s n = header_bytes n.header ++ body s n.children n.entries
 
 -- "Node i stands at i times the node size": the bytes of nodes in the order of their places
-unfoldable pub encodeAll : Shape → List Node → List ℕ
-encodeAll s ns = spread (encode s) ns
+unfoldable pub encode_all : Shape → List Node → List ℕ
+encode_all s ns = spread (encode s) ns
 
 -- what a new node holds
-abbrev pub firstChildren : First → List Child
-firstChildren Nothing = []
-firstChildren (OneChild c) = c ∷ []
+abbrev pub first_children : First → List Child
+first_children Nothing = []
+first_children (OneChild c) = c ∷ []
 
-unfoldable pub newNode : Header → First → Node
-newNode h f = record { header = h; children = firstChildren f; entries = [] }
+unfoldable pub new_node : Header → First → Node
+new_node h f = record { header = h; children = first_children f; entries = [] }
 
 -- ═══ Values that fit their fields, and so are read back as they were written ═══
 

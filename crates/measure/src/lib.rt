@@ -1,9 +1,9 @@
 // The library's calls and questions, many in one call, for tests/bench: a script is carried out on one history. Not part of the product's interface.
 ghost use Rattle.std.specs.Prelude.{◌≡◌, ◌+◌, ◌≤◌, ◌<◌, length};
 ghost use Rattle.std.proofs.lemmas.List.Edits.{sets};
-ghost use Rattle.record.specs.Record.{recordOf};
+ghost use Rattle.record.specs.Record.{record_of};
 ghost use Rattle.calls.specs.Outcome.{Comes};
-ghost use Rattle.measure.specs.Measure.{slot, call_of, state, step_of, played, measured, measureOf, finishedRecord, finishedOf};
+ghost use Rattle.measure.specs.Measure.{slot, call_of, state, step_of, played, measured, measure_of, finished_record, finished_of};
 
 use layout::{Entry, Shape};
 use record::Refusal;
@@ -30,7 +30,7 @@ fn say(said: &mut [u8], at: usize, r: Refusal, nodes: u32, e: Entry)
 
 // Kinds 0 to 3 and the rest: set, remove, increment, add, finish.
 fn call(shape: Shape, h: &mut [u64; 87], e: Entry, nodes: &mut [u8], table: &mut [u8]) -> Refusal
-    ensures { Comes result shape h.new nodes.new table.new (call_of (recordOf shape h.old) e nodes.old table.old) }
+    ensures { Comes result shape h.new nodes.new table.new (call_of (record_of shape h.old) e nodes.old table.old) }
 {
     if e.kind == 0 {
         return calls::changing::set(shape, h, e.start, e.quark, e.value, nodes, table);
@@ -59,7 +59,7 @@ fn step(
     at: usize,
 )
     requires { (length h.old ≡ 87) × (at + 40 ≤ length said.old) }
-    ensures { (length h.new ≡ 87) × (state (recordOf shape h.new) nodes.new table.new answer.new said.new ≡ step_of e at (state (recordOf shape h.old) nodes.old table.old answer.old said.old)) }
+    ensures { (length h.new ≡ 87) × (state (record_of shape h.new) nodes.new table.new answer.new said.new ≡ step_of e at (state (record_of shape h.old) nodes.old table.old answer.old said.old)) }
 {
     if e.kind == 6 {
         let s = questions::one::single(shape, h, e.start, e.quark, nodes, table);
@@ -95,7 +95,7 @@ fn play(
     said: &mut [u8],
 )
     requires { length h.old ≡ 87 }
-    ensures { state (recordOf shape h.new) nodes.new table.new answer.new said.new ≡ played script.now (state (recordOf shape h.old) nodes.old table.old answer.old said.old) }
+    ensures { state (record_of shape h.new) nodes.new table.new answer.new said.new ≡ played script.now (state (record_of shape h.old) nodes.old table.old answer.old said.old) }
 {
     let mut i: usize = 0;
     while i < script.len() / CALL {
@@ -122,7 +122,7 @@ pub extern "C" fn history_measure(
     answer: &mut [u8],
     said: &mut [u8],
 ) -> u32
-    ensures { measured result nodes.new table.new answer.new said.new ≡ measureOf start attributes k c n script.now nodes.old table.old answer.old said.old }
+    ensures { measured result nodes.new table.new answer.new said.new ≡ measure_of start attributes k c n script.now nodes.old table.old answer.old said.old }
 {
     let shape = Shape { k: k, c: c, n: n };
     let mut h = [0u64; 87];
@@ -134,7 +134,7 @@ pub extern "C" fn history_measure(
 // The record of a finished history, as far as a question reads it.
 fn finished(start: u64, latest: u64, attributes: u32, used: u32, root: u32, top: u32) -> [u64; 87]
     requires { top < 16 }
-    ensures { (length result ≡ 87) × ((s : Shape) → recordOf s result ≡ finishedRecord start latest attributes s used root top) }
+    ensures { (length result ≡ 87) × ((s : Shape) → record_of s result ≡ finished_record start latest attributes s used root top) }
 {
     let mut h = [0u64; 87];
     h[top as usize] = root as u64;
@@ -166,7 +166,7 @@ pub extern "C" fn history_measure_finished(
     answer: &mut [u8],
     said: &mut [u8],
 ) -> u32
-    ensures { measured result nodes.new table.new answer.new said.new ≡ finishedOf start latest attributes k c n used root level script.now nodes.old table.old answer.old said.old }
+    ensures { measured result nodes.new table.new answer.new said.new ≡ finished_of start latest attributes k c n used root level script.now nodes.old table.old answer.old said.old }
 {
     if 15 < level {
         return 3;

@@ -10,13 +10,13 @@ use lib.ListN.{length}
 use borrow.Author.Tests.{leb-true, le-leb}
 use Rattle.model.specs.Transient.{Interval, Call, History, history}
 use Rattle.model.specs.Build.{Subtrees, childless, also, Shape, insert, build}
-use Rattle.model.specs.Nodes.{Node, preorder, nodes, intervals, ∞, openEnd, tree_of, standing}
+use Rattle.model.specs.Nodes.{Node, preorder, nodes, intervals, ∞, open_end, tree_of, standing}
 use Rattle.model.specs.Questions.{holds, walk, only, covers, current, scan, scans, tally, answer, single, each, full, said, ongoing}
 use Rattle.model.specs.Invariant.{Shaped, Inside, Good, Branch}
-use Rattle.model.proofs.EachNode.{nodes-perm}
-use Rattle.model.proofs.Keep.{build-sound, build-start, closeAll-good}
+use Rattle.model.proofs.EachNode.{nodes_perm}
+use Rattle.model.proofs.Keep.{build_sound, build_start, close_all_good}
 use Rattle.model.proofs.Legal.{Legal}
-use Rattle.model.proofs.Lists.{only-append, perm-only, perm-none, perm-one, perm-length}
+use Rattle.model.proofs.Lists.{only_append, perm_only, perm_none, perm_one, perm_length}
 use Rattle.model.proofs.Once.{all_once}
 use Rattle.model.proofs.Running.{Capped}
 use Rattle.model.proofs.Storable.{storable}
@@ -52,11 +52,11 @@ preorder-in (suc l) a p (also ks h e k) g =
 
 held-only : (q t : ℕ) (ns : List Node) → AllIn ns → only (covers q t) (intervals ns) ≡ only (covers q t) (intervals (only (holds t) ns))
 held-only q t [] a = refl
-held-only q t (n ∷ ns) a = only-append (covers q t) n.held (intervals ns) ∙ go (holds t n) refl (held-only q t ns a.1)
+held-only q t (n ∷ ns) a = only_append (covers q t) n.held (intervals ns) ∙ go (holds t n) refl (held-only q t ns a.1)
   where
     go : (b : Bool) → holds t n ≡ b → only (covers q t) (intervals ns) ≡ only (covers q t) (intervals (only (holds t) ns))
         → only (covers q t) n.held ++ only (covers q t) (intervals ns) ≡ only (covers q t) (intervals (cond b (n ∷ only (holds t) ns) (only (holds t) ns)))
-    go true e r = ap (λ z. only (covers q t) n.held ++ z) r ∙ sym (only-append (covers q t) n.held _)
+    go true e r = ap (λ z. only (covers q t) n.held ++ z) r ∙ sym (only_append (covers q t) n.held _)
     go false e r = ap (λ z. z ++ only (covers q t) (intervals ns)) (inside-miss q t n.start n.end n.held a.0 e) ∙ r
 
 walk-covers : (q t l a : ℕ) (p : Option ℕ) (ks : Subtrees) → Good l a ks
@@ -68,7 +68,7 @@ unfolding build insert
 build-largest sh o e [] h c = h
 build-largest sh o e (iv ∷ ivs) h c = let i = build-largest sh o e ivs h c.1 in omega arith
 
-pub openEnd-late : (l : History) → l.latest < 2 ^ 63 → l.latest ≤ openEnd l
+pub openEnd-late : (l : History) → l.latest < 2 ^ 63 → l.latest ≤ open_end l
 openEnd-late l h = go l.finished
   where
     go : (b : Bool) → l.latest ≤ cond b l.latest ∞
@@ -77,8 +77,8 @@ openEnd-late l h = go l.finished
 
 -- at most one interval covers: its order does not matter
 perm-short : {u z : List Interval} {x : Interval} → Permᴰ u z → (c : List Interval) → c ++ z ≡ x ∷ [] → u ≡ z
-perm-short m [] e = perm-one m e ∙ sym e
-perm-short m (y ∷ []) e = let f = tail-eq_of_cons-eq e in perm-none m f ∙ sym f
+perm-short m [] e = perm_one m e ∙ sym e
+perm-short m (y ∷ []) e = let f = tail-eq_of_cons-eq e in perm_none m f ∙ sym f
 perm-short m (y ∷ y' ∷ c) e = let f = tail-eq_of_cons-eq e in cc f
 
 answer-scan : (q t : ℕ) (x : Interval) (w : List Node) (z : List Interval) → only (covers q t) (intervals w) ≡ z → (c : List Interval)
@@ -94,10 +94,10 @@ module _ (sh : Shape) (s n : ℕ) (cs : List Call) (shaped : Shaped sh) (legal :
       let l = history s n cs in
       let c = storable s n cs legal in
       let t = tree_of sh l in
-      let late : t.largest ≤ openEnd l = omega (arith, build-largest sh l.start l.latest l.stored c.low c.capped, openEnd-late l c.high) in
-      let sound = build-sound sh l.start l.stored shaped c.sane in
-      let branch = subst (λ (o : ℕ). Branch o t.largest t.branch) (build-start sh l.start l.stored) sound.branch in
-      closeAll-good l.start t.largest (openEnd l) t.branch late branch
+      let late : t.largest ≤ open_end l = omega (arith, build-largest sh l.start l.latest l.stored c.low c.capped, openEnd-late l c.high) in
+      let sound = build_sound sh l.start l.stored shaped c.sane in
+      let branch = subst (λ (o : ℕ). Branch o t.largest t.branch) (build_start sh l.start l.stored) sound.branch in
+      close_all_good l.start t.largest (open_end l) t.branch late branch
 
   -- the nodes entered are those of all nodes that hold t, so their number is the tally
   pub entered-nodes : (t : ℕ) → walk t none (standing sh (history s n cs)) ≡ only (holds t) (preorder none (standing sh (history s n cs)))
@@ -107,11 +107,11 @@ module _ (sh : Shape) (s n : ℕ) (cs : List Call) (shaped : Shaped sh) (legal :
   unfolding tally standing
   entered-tally t =
       ap length (entered-nodes t)
-      ∙ sym (perm-length (perm-only (holds t) (nodes-perm (openEnd (history s n cs)) (tree_of sh (history s n cs)).branch)))
+      ∙ sym (perm_length (perm_only (holds t) (nodes_perm (open_end (history s n cs)) (tree_of sh (history s n cs)).branch)))
 
   pub stands-once : Permᴰ (intervals (preorder none (standing sh (history s n cs)))) (history s n cs).stored
   unfolding standing
-  stands-once = let l = history s n cs in all_once sh l.start (openEnd l) l.stored shaped (storable s n cs legal).sane
+  stands-once = let l = history s n cs in all_once sh l.start (open_end l) l.stored shaped (storable s n cs legal).sane
 
   -- what the walk sees of an attribute is what was stored of it
   pub seen : (q t : ℕ) → q < (history s n cs).attributes → (history s n cs).start ≤ t → t ≤ (history s n cs).latest
@@ -119,7 +119,7 @@ module _ (sh : Shape) (s n : ℕ) (cs : List Call) (shaped : Shaped sh) (legal :
   unfolding scan
   seen q t h i j = let l = history s n cs in let g = standing-good in
       walk-covers q t g.0 l.start none (standing sh l) g.1
-      ∙ perm-short (perm-only (covers q t) stands-once) (current l q t) (told s n cs q t legal h i j).1
+      ∙ perm-short (perm_only (covers q t) stands-once) (current l q t) (told s n cs q t legal h i j).1
 
   -- so exactly one interval is found over walk and table
   pub found-one : (q t : ℕ) → q < (history s n cs).attributes → (history s n cs).start ≤ t → t ≤ (history s n cs).latest
@@ -147,9 +147,9 @@ module _ (sh : Shape) (s n : ℕ) (cs : List Call) (shaped : Shaped sh) (legal :
   full-scan t i j = each-scan t (history s n cs).attributes (omega arith) i j
 
   -- and the one interval that it gives has the state that was said last
-  pub single-said : (q t : ℕ) → q < (history s n cs).attributes → (history s n cs).start ≤ t → t ≤ (history s n cs).latest
+  pub single_said : (q t : ℕ) → q < (history s n cs).attributes → (history s n cs).start ≤ t → t ≤ (history s n cs).latest
       → (x : Interval) × ((single sh (history s n cs) q t).found ≡ x ∷ []) × (x.state ≡ said cs q t)
-  single-said q t h i j = let r = told s n cs q t legal h i j in (r.0, single-scan q t h i j ∙ r.1, r.2)
+  single_said q t h i j = let r = told s n cs q t legal h i j in (r.0, single-scan q t h i j ∙ r.1, r.2)
 
   -- how many nodes each question enters
   pub full-entered : (t : ℕ) → length (full sh (history s n cs) t).entered ≡ tally t (nodes (standing sh (history s n cs)))

@@ -11,17 +11,17 @@ use Rattle.model.specs.State.{State, null, int, same, sameℤ}
 use Rattle.model.specs.Transient.{Interval, Change, Call, change, becomes, Ongoing}
 use Rattle.model.specs.Questions.{only, covers, said}
 
-sameℤ-eq : (a b : ℤ) → sameℤ a b ≡ true → a ≡ b
-sameℤ-eq (pos m) (pos n) e = ap pos (eqb-true m n e)
-sameℤ-eq (pos m) (negsuc n) e = cc
-sameℤ-eq (negsuc m) (pos n) e = cc
-sameℤ-eq (negsuc m) (negsuc n) e = ap negsuc (eqb-true m n e)
+sameℤ_eq : (a b : ℤ) → sameℤ a b ≡ true → a ≡ b
+sameℤ_eq (pos m) (pos n) e = ap pos (eqb-true m n e)
+sameℤ_eq (pos m) (negsuc n) e = cc
+sameℤ_eq (negsuc m) (pos n) e = cc
+sameℤ_eq (negsuc m) (negsuc n) e = ap negsuc (eqb-true m n e)
 
-pub same-eq : (a b : State) → same a b ≡ true → a ≡ b
-same-eq null null e = refl
-same-eq null (int b) e = cc
-same-eq (int a) null e = cc
-same-eq (int a) (int b) e = ap int (sameℤ-eq a b e)
+pub same_eq : (a b : State) → same a b ≡ true → a ≡ b
+same_eq null null e = refl
+same_eq null (int b) e = cc
+same_eq (int a) null e = cc
+same_eq (int a) (int b) e = ap int (sameℤ_eq a b e)
 
 abbrev pub Found : List Call → List Interval → ℕ → ℕ → Type 0
 Found cs r q t = (x : Interval) × (only (covers q t) r ≡ x ∷ []) × (x.state ≡ said cs q t)
@@ -49,26 +49,26 @@ pub covering : (q t : ℕ) (x : Interval) (r : List Interval) → x.quark ≡ q 
 covering q t x r e h i = rw (eq-eqb x.quark q e, le-leb x.start t h, le-leb t x.end i)
 
 module _ (τ x : ℕ) (c : Change) (cs : List Call) where
-  pub said-other : (q t : ℕ) → eqb x q ≡ false → said (change τ x c ∷ cs) q t ≡ said cs q t
+  pub said_other : (q t : ℕ) → eqb x q ≡ false → said (change τ x c ∷ cs) q t ≡ said cs q t
   unfolding said
-  said-other q t e = rw e
+  said_other q t e = rw e
 
-  pub said-before : (q t : ℕ) → t < τ → said (change τ x c ∷ cs) q t ≡ said cs q t
+  pub said_before : (q t : ℕ) → t < τ → said (change τ x c ∷ cs) q t ≡ said cs q t
   unfolding said
-  said-before q t h = rw (lt-leb τ t h, and-false (eqb x q))
+  said_before q t h = rw (lt-leb τ t h, and-false (eqb x q))
 
-  pub said-now : (t : ℕ) → τ ≤ t → said (change τ x c ∷ cs) x t ≡ becomes c (said cs x t)
+  pub said_now : (t : ℕ) → τ ≤ t → said (change τ x c ∷ cs) x t ≡ becomes c (said cs x t)
   unfolding said
-  said-now t h = rw (eq-eqb x x refl, le-leb τ t h)
+  said_now t h = rw (eq-eqb x x refl, le-leb τ t h)
 
   module _ (s latest : ℕ) (r : List Interval) (later : latest ≤ τ) where
     -- another attribute
-    pub fine-other : (q : ℕ) (o : Ongoing) → eqb x q ≡ false → Fine s latest cs r q o → Fine s τ (change τ x c ∷ cs) r q o
-    fine-other q o e f = record {
+    pub fine_other : (q : ℕ) (o : Ongoing) → eqb x q ≡ false → Fine s latest cs r q o → Fine s τ (change τ x c ∷ cs) r q o
+    fine_other q o e f = record {
       begun = f.begun;
       upto = omega (arith, f.upto);
-      now = λ t h. f.now t h ∙ sym (said-other q t e);
-      past = λ t h i. let p = f.past t h i in (p.0, p.1, p.2 ∙ sym (said-other q t e));
+      now = λ t h. f.now t h ∙ sym (said_other q t e);
+      past = λ t h i. let p = f.past t h i in (p.0, p.1, p.2 ∙ sym (said_other q t e));
       clear = f.clear;
     }
 
@@ -84,22 +84,22 @@ module _ (τ x : ℕ) (c : Change) (cs : List Call) where
 
     module _ (o : Ongoing) (f : Fine s latest cs r x o) where
       value : (t : ℕ) → τ ≤ t → becomes c o.state ≡ said (change τ x c ∷ cs) x t
-      value t h = ap (becomes c) (f.now t (omega (arith, f.upto))) ∙ sym (said-now t h)
+      value t h = ap (becomes c) (f.now t (omega (arith, f.upto))) ∙ sym (said_now t h)
 
       before : (t : ℕ) → s ≤ t → t < o.start → Found (change τ x c ∷ cs) r x t
-      before t h i = let p = f.past t h i in (p.0, p.1, p.2 ∙ sym (said-before x t (omega (arith, f.upto))))
+      before t h i = let p = f.past t h i in (p.0, p.1, p.2 ∙ sym (said_before x t (omega (arith, f.upto))))
 
       -- "If kind and value equal the ongoing ones, nothing else happens."
-      pub fine-same : becomes c o.state ≡ o.state → Fine s τ (change τ x c ∷ cs) r x o
-      fine-same e = record { begun = f.begun; upto = omega (arith, f.upto); now = λ t h. go t h (leb τ t) refl; past = before; clear = f.clear }
+      pub fine_same : becomes c o.state ≡ o.state → Fine s τ (change τ x c ∷ cs) r x o
+      fine_same e = record { begun = f.begun; upto = omega (arith, f.upto); now = λ t h. go t h (leb τ t) refl; past = before; clear = f.clear }
         where
           go : (t : ℕ) → o.start ≤ t → (b : Bool) → leb τ t ≡ b → o.state ≡ said (change τ x c ∷ cs) x t
           go t h true b = sym e ∙ value t (leb-true τ t b)
-          go t h false b = f.now t h ∙ sym (said-before x t (leb-false τ t b))
+          go t h false b = f.now t h ∙ sym (said_before x t (leb-false τ t b))
 
       -- "If the ongoing start is t, the value is replaced and nothing is stored."
-      pub fine-replaced : o.start ≡ τ → Fine s τ (change τ x c ∷ cs) r x (record { state = becomes c o.state; start = τ })
-      fine-replaced e =
+      pub fine_replaced : o.start ≡ τ → Fine s τ (change τ x c ∷ cs) r x (record { state = becomes c o.state; start = τ })
+      fine_replaced e =
           record {
             begun = omega (arith, f.begun);
             upto = omega arith;
@@ -109,10 +109,10 @@ module _ (τ x : ℕ) (c : Change) (cs : List Call) where
           }
 
       -- "Otherwise the interval from the ongoing start to t-1, ends included, is stored and the new state is ongoing from t."
-      pub fine-stored : (o.start ≡ τ → ⊥)
+      pub fine_stored : (o.start ≡ τ → ⊥)
           → let y : Interval = record { quark = x; state = o.state; start = o.start; end = τ - 1 } in
           Fine s τ (change τ x c ∷ cs) (y ∷ r) x (record { state = becomes c o.state; start = τ })
-      fine-stored e = record {
+      fine_stored e = record {
         begun = omega (arith, f.begun, f.upto);
         upto = omega arith;
         now = value;
@@ -126,5 +126,5 @@ module _ (τ x : ℕ) (c : Change) (cs : List Call) where
           go : (t : ℕ) → s ≤ t → t < τ → (b : Bool) → leb o.start t ≡ b → Found (change τ x c ∷ cs) (y ∷ r) x t
           go t h i true b =
               let k = leb-true o.start t b in
-              (y, covering x t y r refl k (omega arith) ∙ ap (λ z. y ∷ z) (f.clear t k), f.now t k ∙ sym (said-before x t i))
+              (y, covering x t y r refl k (omega arith) ∙ ap (λ z. y ∷ z) (f.clear t k), f.now t k ∙ sym (said_before x t i))
           go t h i false b = let k = leb-false o.start t b in let p = before t h k in (p.0, late x t y r k ∙ p.1, p.2)

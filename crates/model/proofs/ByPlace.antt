@@ -11,37 +11,37 @@ use lib.ListN.{length, get_or, length-append, get_or-append}
 use lib.Seq.{get_or_at}
 use borrow.Author.Tests.{ltb-true, ltb-false, le-leb}
 use Rattle.model.specs.Build.{Head, Subtrees, childless, also, Open, adopt}
-use Rattle.model.specs.Nodes.{closeUp, closeAll, Node, entries, node, preorder, blank, upto, seqs}
+use Rattle.model.specs.Nodes.{close_up, close_all, Node, entries, node, preorder, blank, upto, seqs}
 use Rattle.model.specs.Questions.{walk, or_else, last_at, onward, chase}
 use Rattle.model.specs.Invariant.{Good, Some}
 
 -- lookup
-pub length-upto : (n : ℕ) → length (upto n) ≡ n
-length-upto zero = refl
-length-upto (suc n) = length-append (upto n) (n ∷ []) ∙ omega (arith, length-upto n)
+pub length_upto : (n : ℕ) → length (upto n) ≡ n
+length_upto zero = refl
+length_upto (suc n) = length-append (upto n) (n ∷ []) ∙ omega (arith, length_upto n)
 
-pub length-seqs : (ns : List Node) → length (seqs ns) ≡ length ns
-length-seqs [] = refl
-length-seqs (n ∷ ns) = ap suc (length-seqs ns)
+pub length_seqs : (ns : List Node) → length (seqs ns) ≡ length ns
+length_seqs [] = refl
+length_seqs (n ∷ ns) = ap suc (length_seqs ns)
 
-pub getD-upto : (n i : ℕ) → i < n → get_or (upto n) i 0 ≡ i
-getD-upto zero i h = absurd (omega arith)
-getD-upto (suc n) i h = go (ltb i n) refl (getD-upto n i)
+pub get_or_upto : (n i : ℕ) → i < n → get_or (upto n) i 0 ≡ i
+get_or_upto zero i h = absurd (omega arith)
+get_or_upto (suc n) i h = go (ltb i n) refl (get_or_upto n i)
   where
     go : (b : Bool) → ltb i n ≡ b → (i < n → get_or (upto n) i 0 ≡ i) → get_or (upto n ++ n ∷ []) i 0 ≡ i
-    go true e ih = let k = ltb-true i n e in get_or-append (upto n) (n ∷ []) 0 i (omega (arith, length-upto n)) ∙ ih k
+    go true e ih = let k = ltb-true i n e in get_or-append (upto n) (n ∷ []) 0 i (omega (arith, length_upto n)) ∙ ih k
     go false e ih =
         let k = ltb-false i n e in
-        let j : length (upto n) ≡ i = omega (arith, length-upto n) in let w : n ≡ i = omega arith in get_or_at (upto n) n [] 0 i j ∙ w
+        let j : length (upto n) ≡ i = omega (arith, length_upto n) in let w : n ≡ i = omega arith in get_or_at (upto n) n [] 0 i j ∙ w
 
-getD-seqs : (ns : List Node) (i : ℕ) → get_or (seqs ns) i 0 ≡ (get_or ns i blank).seq
-getD-seqs [] i = refl
-getD-seqs (n ∷ ns) zero = refl
-getD-seqs (n ∷ ns) (suc i) = getD-seqs ns i
+get_or_seqs : (ns : List Node) (i : ℕ) → get_or (seqs ns) i 0 ≡ (get_or ns i blank).seq
+get_or_seqs [] i = refl
+get_or_seqs (n ∷ ns) zero = refl
+get_or_seqs (n ∷ ns) (suc i) = get_or_seqs ns i
 
-mem-at : {m : Node} {ns : List Node} → Memᴰ m ns → (i : ℕ) × (i < length ns) × (get_or ns i blank ≡ m)
-mem-at (Memᴰ.head e) = (0, omega arith, sym e)
-mem-at (Memᴰ.tail d) = let r = mem-at d in (suc r.0, omega (arith, r.1), r.2)
+mem_at : {m : Node} {ns : List Node} → Memᴰ m ns → (i : ℕ) × (i < length ns) × (get_or ns i blank ≡ m)
+mem_at (Memᴰ.head e) = (0, omega arith, sym e)
+mem_at (Memᴰ.tail d) = let r = mem_at d in (suc r.0, omega (arith, r.1), r.2)
 
 pub at_mem : (ns : List Node) (i : ℕ) → i < length ns → Memᴰ (get_or ns i blank) ns
 at_mem [] i h = absurd (omega arith)
@@ -49,7 +49,7 @@ at_mem (n ∷ ns) zero h = Memᴰ.head refl
 at_mem (n ∷ ns) (suc i) h = Memᴰ.tail (at_mem ns i (omega arith))
 
 pub place_at : (k : ℕ) (ns : List Node) (i : ℕ) → seqs ns ≡ upto k → i < length ns → (get_or ns i blank).seq ≡ i
-place_at k ns i e h = sym (getD-seqs ns i) ∙ (ap (λ z. get_or z i 0) e ∙ getD-upto k i (omega (arith, length-seqs ns, ap length e, length-upto k)))
+place_at k ns i e h = sym (get_or_seqs ns i) ∙ (ap (λ z. get_or z i 0) e ∙ get_or_upto k i (omega (arith, length_seqs ns, ap length e, length_upto k)))
 
 -- m stands in ns at its number
 abbrev pub Here : List Node → Node → Type 0
@@ -57,7 +57,7 @@ Here ns m = (m.seq < length ns) × (get_or ns m.seq blank ≡ m)
 
 pub in_place : (k : ℕ) (ns : List Node) (m : Node) → seqs ns ≡ upto k → Memᴰ m ns → Here ns m
 in_place k ns m e d =
-    let r = mem-at d in
+    let r = mem_at d in
     let w : m.seq ≡ r.0 = ap (λ n. n.seq) (sym r.2) ∙ place_at k ns r.0 e r.1 in
     (omega (arith, r.1), ap (λ z. get_or ns z blank) w ∙ r.2)
 
@@ -69,33 +69,33 @@ abbrev pub At : List Node → Option ℕ → Subtrees → Type 0
 At ns p childless = Unit {0}
 At ns p (also ks h e k) = At ns p ks × Here ns (node p h e k) × At ns (some h.seq) k
 
-pub preorder-at : (ns : List Node) (p : Option ℕ) (ks : Subtrees) → ((m : Node) → Memᴰ m (preorder p ks) → Here ns m) → At ns p ks
-preorder-at ns p childless f = tt
-preorder-at ns p (also ks h e k) f = (
-  preorder-at ns p ks (λ m d. f m (Memᴰ.append_left _ d)),
+pub preorder_at : (ns : List Node) (p : Option ℕ) (ks : Subtrees) → ((m : Node) → Memᴰ m (preorder p ks) → Here ns m) → At ns p ks
+preorder_at ns p childless f = tt
+preorder_at ns p (also ks h e k) f = (
+  preorder_at ns p ks (λ m d. f m (Memᴰ.append_left _ d)),
   f (node p h e k) (Memᴰ.append_right (preorder p ks) (Memᴰ.head refl)),
-  preorder-at ns (some h.seq) k (λ m d. f m (Memᴰ.append_right (preorder p ks) (Memᴰ.tail d))),
+  preorder_at ns (some h.seq) k (λ m d. f m (Memᴰ.append_right (preorder p ks) (Memᴰ.tail d))),
 )
 
 -- the walk by places: the last entry of two lists of entries is that of the second, if it has one
-last-append : (t : ℕ) (xs ys : List (ℕ × ℕ)) → last_at t (xs ++ ys) ≡ or_else (last_at t ys) (last_at t xs)
-last-append t [] ys = go (last_at t ys)
+last_append : (t : ℕ) (xs ys : List (ℕ × ℕ)) → last_at t (xs ++ ys) ≡ or_else (last_at t ys) (last_at t xs)
+last_append t [] ys = go (last_at t ys)
   where
     go : (o : Option ℕ) → o ≡ or_else o none
     go none = refl
     go (some a) = refl
-last-append t (x ∷ xs) ys = rw (last-append t xs ys) (go (last_at t ys) (last_at t xs) (cond (leb x.1 t) (some x.0) none))
+last_append t (x ∷ xs) ys = rw (last_append t xs ys) (go (last_at t ys) (last_at t xs) (cond (leb x.1 t) (some x.0) none))
   where
     go : (a b c : Option ℕ) → or_else (or_else a b) c ≡ or_else a (or_else b c)
     go none b c = refl
     go (some a) b c = refl
 
-chase-walk : (t l a : ℕ) (ns : List Node) (p : Option ℕ) (ks : Subtrees) → Good l a ks → At ns p ks
+chase_walk : (t l a : ℕ) (ns : List Node) (p : Option ℕ) (ks : Subtrees) → Good l a ks → At ns p ks
     → onward t ns (chase l t ns) (last_at t (entries ks)) ≡ walk t p ks
-chase-walk t l a ns p childless g w = refl
-chase-walk t zero a ns p (also ks h e k) g w = absurd g
-chase-walk t (suc l) a ns p (also ks h e k) g w = rw (last-append t (entries ks) ((h.seq, h.start) ∷ [])) (go (leb h.start t) (leb t e) refl refl
-    (chase-walk t (suc l) a ns p ks g.0 w.0) (chase-walk t l h.start ns (some h.seq) k g.2 w.2))
+chase_walk t l a ns p childless g w = refl
+chase_walk t zero a ns p (also ks h e k) g w = absurd g
+chase_walk t (suc l) a ns p (also ks h e k) g w = rw (last_append t (entries ks) ((h.seq, h.start) ∷ [])) (go (leb h.start t) (leb t e) refl refl
+    (chase_walk t (suc l) a ns p ks g.0 w.0) (chase_walk t l h.start ns (some h.seq) k g.2 w.2))
   where
     go : (b c : Bool) → leb h.start t ≡ b → leb t e ≡ c → onward t ns (chase (suc l) t ns) (last_at t (entries ks)) ≡ walk t p ks
         → onward t ns (chase l t ns) (last_at t (entries k)) ≡ walk t (some h.seq) k
@@ -106,17 +106,17 @@ chase-walk t (suc l) a ns p (also ks h e k) g w = rw (last-append t (entries ks)
     go false c x y i j = i
 
 -- what is shown has one root
-closeUp-root : (e : ℕ) (f : Open) (above : List Open) → (r : Head) × (k : Subtrees) × (closeUp e f above ≡ also childless r e k)
-closeUp-root e f [] = (f.head, f.closed, refl)
-closeUp-root e f (p ∷ above) = closeUp-root e (adopt e f p) above
+close_up_root : (e : ℕ) (f : Open) (above : List Open) → (r : Head) × (k : Subtrees) × (close_up e f above ≡ also childless r e k)
+close_up_root e f [] = (f.head, f.closed, refl)
+close_up_root e f (p ∷ above) = close_up_root e (adopt e f p) above
 
-pub closeAll-root : (e : ℕ) (fs : List Open) → Some fs → (r : Head) × (k : Subtrees) × (closeAll e fs ≡ also childless r e k)
-closeAll-root e [] s = absurd s
-closeAll-root e (f ∷ above) s = closeUp-root e f above
+pub close_all_root : (e : ℕ) (fs : List Open) → Some fs → (r : Head) × (k : Subtrees) × (close_all e fs ≡ also childless r e k)
+close_all_root e [] s = absurd s
+close_all_root e (f ∷ above) s = close_up_root e f above
 
-pub chase-root : (t l a e : ℕ) (ns : List Node) (r : Head) (k : Subtrees) → Good l a (also childless r e k) → At ns none (also childless r e k)
+pub chase_root : (t l a e : ℕ) (ns : List Node) (r : Head) (k : Subtrees) → Good l a (also childless r e k) → At ns none (also childless r e k)
     → a ≤ t → t ≤ e
     → chase (suc r.level) t ns r.seq ≡ walk t none (also childless r e k)
-chase-root t zero a e ns r k g w h i = absurd g
-chase-root t (suc l) a e ns r k g w h i = rw (le-leb r.start t (omega (arith, g.1.start)), le-leb t e i, w.1.1) (ap (λ z. node none r e k ∷ z)
-    (ap (λ z. onward t ns (chase z t ns) (last_at t (entries k))) g.1.level ∙ chase-walk t l r.start ns (some r.seq) k g.2 w.2))
+chase_root t zero a e ns r k g w h i = absurd g
+chase_root t (suc l) a e ns r k g w h i = rw (le-leb r.start t (omega (arith, g.1.start)), le-leb t e i, w.1.1) (ap (λ z. node none r e k ∷ z)
+    (ap (λ z. onward t ns (chase z t ns) (last_at t (entries k))) g.1.level ∙ chase_walk t l r.start ns (some r.seq) k g.2 w.2))

@@ -7,9 +7,9 @@ use mathlib.Core.Option.{Option, none, some}
 use native.Mathlib.Omega.{arith}
 use Rattle.model.specs.Transient.{Interval}
 use Rattle.model.specs.Build.{Subtrees, childless, also, next, Open, Shape, store, adopt, chain, Grown, insert, build}
-use Rattle.model.specs.Nodes.{closeUp, closeAll, Node, preorder, intervals}
+use Rattle.model.specs.Nodes.{close_up, close_all, Node, preorder, intervals}
 use Rattle.model.specs.Invariant.{Shaped}
-use Rattle.model.proofs.Keep.{tree-steps, sane-at, build-sound}
+use Rattle.model.proofs.Keep.{tree_steps, sane_at, build_sound}
 use Rattle.model.proofs.Legal.{Sanes}
 use Rattle.model.proofs.Steps.{Storing, close, raise, grows, keeps}
 
@@ -22,58 +22,58 @@ abbrev pub contents : List Open → List Interval
 contents [] = []
 contents (f ∷ above) = contents above ++ (f.head.held ++ content f.closed)
 
-intervals-append : (xs ys : List Node) → intervals (xs ++ ys) ≡ intervals xs ++ intervals ys
-intervals-append [] ys = refl
-intervals-append (x ∷ xs) ys = rw (intervals-append xs ys, append_assoc)
+intervals_append : (xs ys : List Node) → intervals (xs ++ ys) ≡ intervals xs ++ intervals ys
+intervals_append [] ys = refl
+intervals_append (x ∷ xs) ys = rw (intervals_append xs ys, append_assoc)
 
-preorder-content : (p : Option ℕ) (ks : Subtrees) → intervals (preorder p ks) ≡ content ks
-preorder-content p childless = refl
-preorder-content p (also ks h e k) = rw (intervals-append, preorder-content p ks, preorder-content (some h.seq) k)
+preorder_content : (p : Option ℕ) (ks : Subtrees) → intervals (preorder p ks) ≡ content ks
+preorder_content p childless = refl
+preorder_content p (also ks h e k) = rw (intervals_append, preorder_content p ks, preorder_content (some h.seq) k)
 
 -- closing moves no interval
-adopt-content : (S : ℕ) (f p : Open) (above : List Open) → contents (adopt S f p ∷ above) ≡ contents (f ∷ p ∷ above)
-adopt-content S f p above = simp append_assoc
+adopt_content : (S : ℕ) (f p : Open) (above : List Open) → contents (adopt S f p ∷ above) ≡ contents (f ∷ p ∷ above)
+adopt_content S f p above = simp append_assoc
 
-closeUp-content : (e : ℕ) (f : Open) (above : List Open) → content (closeUp e f above) ≡ contents (f ∷ above)
-closeUp-content e f [] = refl
-closeUp-content e f (p ∷ above) = closeUp-content e (adopt e f p) above ∙ adopt-content e f p above
+close_up_content : (e : ℕ) (f : Open) (above : List Open) → content (close_up e f above) ≡ contents (f ∷ above)
+close_up_content e f [] = refl
+close_up_content e f (p ∷ above) = close_up_content e (adopt e f p) above ∙ adopt_content e f p above
 
-closeAll-content : (e : ℕ) (fs : List Open) → content (closeAll e fs) ≡ contents fs
-closeAll-content e [] = refl
-closeAll-content e (f ∷ above) = closeUp-content e f above
+close_all_content : (e : ℕ) (fs : List Open) → content (close_all e fs) ≡ contents fs
+close_all_content e [] = refl
+close_all_content e (f ∷ above) = close_up_content e f above
 
 module _ (iv : Interval) where
   held_more : (xs ys : List Interval) → Permᴰ ((xs ++ iv ∷ []) ++ ys) (iv ∷ xs ++ ys)
   held_more xs ys = rw append_assoc (Permᴰ.middle iv xs ys)
 
-  store-content : (below : List Open) (f : Open) (above : List Open)
+  store_content : (below : List Open) (f : Open) (above : List Open)
       → Permᴰ (contents (below ++ store iv f ∷ above)) (iv ∷ contents (below ++ f ∷ above))
-  store-content [] f above =
+  store_content [] f above =
       Permᴰ.trans (Permᴰ.append_left (contents above) (held_more f.head.held (content f.closed)))
       (Permᴰ.middle iv (contents above) (f.head.held ++ content f.closed))
-  store-content (g ∷ below) f above = Permᴰ.append_right (g.head.held ++ content g.closed) (store-content below f above)
+  store_content (g ∷ below) f above = Permᴰ.append_right (g.head.held ++ content g.closed) (store_content below f above)
 
-  chain-content : (n q a : ℕ) (fs : List Open) → 0 < n → Permᴰ (contents (chain n q a iv fs)) (iv ∷ contents fs)
-  chain-content zero q a fs h = absurd (omega arith)
-  chain-content (suc zero) q a fs h = rw (append-nil (contents fs)) at (Permᴰ.middle iv (contents fs) [])
-  chain-content (suc (suc n)) q a fs h =
+  chain_content : (n q a : ℕ) (fs : List Open) → 0 < n → Permᴰ (contents (chain n q a iv fs)) (iv ∷ contents fs)
+  chain_content zero q a fs h = absurd (omega arith)
+  chain_content (suc zero) q a fs h = rw (append-nil (contents fs)) at (Permᴰ.middle iv (contents fs) [])
+  chain_content (suc (suc n)) q a fs h =
       let g : Open = record { head = record { level = suc n; seq = q; start = a; held = [] }; closed = childless } in
-      rw (append-nil (contents fs)) at (chain-content (suc n) (suc q) a (g ∷ fs) (omega arith))
+      rw (append-nil (contents fs)) at (chain_content (suc n) (suc q) a (g ∷ fs) (omega arith))
 
-  steps-content : {sh : Shape} {o S q : ℕ} {fs : List Open} {r : Grown} → Storing sh iv o S q fs r → Permᴰ (contents r.branch) (iv ∷ contents fs)
-  steps-content {S = S} (close {f = f} {p = p} {above = above} s) = rw (← adopt-content S f p above) (steps-content s)
-  steps-content (raise s) = steps-content s
-  steps-content (grows f above x y z) = chain-content f.head.level _ (next f.head.start f.closed) (f ∷ above) x
-  steps-content (keeps below f above x y) = store-content below f above
+  steps_content : {sh : Shape} {o S q : ℕ} {fs : List Open} {r : Grown} → Storing sh iv o S q fs r → Permᴰ (contents r.branch) (iv ∷ contents fs)
+  steps_content {S = S} (close {f = f} {p = p} {above = above} s) = rw (← adopt_content S f p above) (steps_content s)
+  steps_content (raise s) = steps_content s
+  steps_content (grows f above x y z) = chain_content f.head.level _ (next f.head.start f.closed) (f ∷ above) x
+  steps_content (keeps below f above x y) = store_content below f above
 
-pub build-once : (sh : Shape) (o : ℕ) (ivs : List Interval) → Shaped sh → Sanes o ivs → Permᴰ (contents (build sh o ivs).branch) ivs
+pub build_once : (sh : Shape) (o : ℕ) (ivs : List Interval) → Shaped sh → Sanes o ivs → Permᴰ (contents (build sh o ivs).branch) ivs
 unfolding build insert
-build-once sh o [] d h = Permᴰ.nil
-build-once sh o (iv ∷ ivs) d h =
-    let s = tree-steps sh iv (build sh o ivs) d (sane-at sh o iv ivs h.0) (build-sound sh o ivs d h.1) in
-    Permᴰ.trans (steps-content iv s) (Permᴰ.cons refl (build-once sh o ivs d h.1))
+build_once sh o [] d h = Permᴰ.nil
+build_once sh o (iv ∷ ivs) d h =
+    let s = tree_steps sh iv (build sh o ivs) d (sane_at sh o iv ivs h.0) (build_sound sh o ivs d h.1) in
+    Permᴰ.trans (steps_content iv s) (Permᴰ.cons refl (build_once sh o ivs d h.1))
 
 -- the nodes, whatever end e the open ones are given
 pub all_once : (sh : Shape) (o e : ℕ) (ivs : List Interval) → Shaped sh → Sanes o ivs
-    → Permᴰ (intervals (preorder none (closeAll e (build sh o ivs).branch))) ivs
-all_once sh o e ivs d h = rw (preorder-content, closeAll-content) (build-once sh o ivs d h)
+    → Permᴰ (intervals (preorder none (close_all e (build sh o ivs).branch))) ivs
+all_once sh o e ivs d h = rw (preorder_content, close_all_content) (build_once sh o ivs d h)

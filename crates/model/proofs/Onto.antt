@@ -6,10 +6,10 @@ use Rattle.model.specs.Transient.{Interval, Call, change, add, finish, History, 
 use Rattle.model.specs.Build.{Shape, Tree, planted, insert, onto, build}
 use Rattle.model.specs.Nodes.{tree_of}
 
-pub onto-build : (sh : Shape) (s : ℕ) (more ivs : List Interval) → onto sh more (build sh s ivs) ≡ build sh s (more ++ ivs)
+pub onto_build : (sh : Shape) (s : ℕ) (more ivs : List Interval) → onto sh more (build sh s ivs) ≡ build sh s (more ++ ivs)
 unfolding onto build
-onto-build sh s [] ivs = refl
-onto-build sh s (iv ∷ more) ivs = ap (insert sh iv) (onto-build sh s more ivs)
+onto_build sh s [] ivs = refl
+onto_build sh s (iv ∷ more) ivs = ap (insert sh iv) (onto_build sh s more ivs)
 
 -- a call only adds to what is stored
 pub stored_more : (c : Call) (l : History) → (step c l).stored ≡ stores c l ++ l.stored
@@ -25,16 +25,16 @@ step_start add l = refl
 step_start (finish t) l = refl
 
 -- so it stores on top of the tree that is there
-pub step-tree : (sh : Shape) (c : Call) (l : History) → tree_of sh (step c l) ≡ onto sh (stores c l) (tree_of sh l)
-step-tree sh c l = rw (step_start c l, stored_more c l) (sym (onto-build sh l.start (stores c l) l.stored))
+pub step_tree : (sh : Shape) (c : Call) (l : History) → tree_of sh (step c l) ≡ onto sh (stores c l) (tree_of sh l)
+step_tree sh c l = rw (step_start c l, stored_more c l) (sym (onto_build sh l.start (stores c l) l.stored))
 
 -- the intervals with the first one first
-fold-onto : (sh : Shape) (xs ys : List Interval) (t : Tree) → foldl (λ u iv. insert sh iv u) (onto sh ys t) xs ≡ onto sh (reverse_aux xs ys) t
+fold_onto : (sh : Shape) (xs ys : List Interval) (t : Tree) → foldl (λ u iv. insert sh iv u) (onto sh ys t) xs ≡ onto sh (reverse_aux xs ys) t
 unfolding onto
-fold-onto sh [] ys t = refl
-fold-onto sh (x ∷ xs) ys t = fold-onto sh xs (x ∷ ys) t
+fold_onto sh [] ys t = refl
+fold_onto sh (x ∷ xs) ys t = fold_onto sh xs (x ∷ ys) t
 
-pub build-fold : (sh : Shape) (s : ℕ) (xs : List Interval) → build sh s (reverse xs) ≡ foldl (λ u iv. insert sh iv u) (planted s) xs
+pub build_fold : (sh : Shape) (s : ℕ) (xs : List Interval) → build sh s (reverse xs) ≡ foldl (λ u iv. insert sh iv u) (planted s) xs
 unfolding onto build
-build-fold sh s xs =
-    ap (build sh s) (sym (append-nil (reverse xs))) ∙ (sym (onto-build sh s (reverse xs) []) ∙ sym (fold-onto sh xs [] (planted s)))
+build_fold sh s xs =
+    ap (build sh s) (sym (append-nil (reverse xs))) ∙ (sym (onto_build sh s (reverse xs) []) ∙ sym (fold_onto sh xs [] (planted s)))

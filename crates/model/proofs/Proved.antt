@@ -8,125 +8,125 @@ use lib.Dec.{eqb}
 use lib.ListN.{get_or}
 use borrow.Author.Tests.{eqb-true}
 use Rattle.model.specs.Transient.{history}
-use Rattle.model.specs.Nodes.{blank, nodes, openEnd, standing}
+use Rattle.model.specs.Nodes.{blank, nodes, open_end, standing}
 use Rattle.model.specs.Refusals.{refuse, accepted}
 use Rattle.model.specs.Theorems.{Run, Allowed, taken, left, tree, made, TreeSound, WithinLimits, StoredInOrder, StoredOnTop, NewRootAsked, Numbered, EachNodeOnce, ClosedKept, OpenOrEnded, StoredOnce, OneCovers, SingleScans, FullScans, SingleEnters, FullEnters, ValueSaid, FullSaid, WalkedByPlace, NodesSit, QuarksKnown, OneFound, Values64, ShapeFree}
-use Rattle.model.proofs.Answers.{stands-once, single-scan, full-scan, single-said, single-entered, full-entered, found-one}
-use Rattle.model.proofs.Bounded.{table-within, stored-within, perm-within}
-use Rattle.model.proofs.EachNode.{nodes-perm, perm-intervals}
-use Rattle.model.proofs.Keep.{build-sound}
+use Rattle.model.proofs.Answers.{stands-once, single-scan, full-scan, single_said, single-entered, full-entered, found-one}
+use Rattle.model.proofs.Bounded.{table_within, stored_within, perm_within}
+use Rattle.model.proofs.EachNode.{nodes_perm, perm_intervals}
+use Rattle.model.proofs.Keep.{build_sound}
 use Rattle.model.proofs.Kept.{numbered, kept, ended_by}
-use Rattle.model.proofs.Legal.{Legal, legal-more, legal-accepted, asked-single, asked-full}
-use Rattle.model.proofs.Limits.{within-limits}
-use Rattle.model.proofs.NewRoot.{new-root-asked}
-use Rattle.model.proofs.Onto.{step-tree, build-fold}
-use Rattle.model.proofs.Passes.{passes, perm-known, quarks}
+use Rattle.model.proofs.Legal.{Legal, legal_more, legal_accepted, asked_single, asked_full}
+use Rattle.model.proofs.Limits.{within_limits}
+use Rattle.model.proofs.NewRoot.{new_root_asked}
+use Rattle.model.proofs.Onto.{step_tree, build_fold}
+use Rattle.model.proofs.Passes.{passes, perm_known, quarks}
 use Rattle.model.proofs.ShapeFree.{shape_free}
-use Rattle.model.proofs.Sized.{build-rooms}
+use Rattle.model.proofs.Sized.{build_rooms}
 use Rattle.model.proofs.Storable.{storable}
 use Rattle.model.proofs.Told.{told}
-use Rattle.model.proofs.FullSaid.{scans-said}
+use Rattle.model.proofs.FullSaid.{scans_said}
 use Rattle.model.proofs.Walked.{walked}
 
-pub stored-in-order : StoredInOrder
-stored-in-order = build-fold
+pub stored_in_order : StoredInOrder
+stored_in_order = build_fold
 
-pub stored-on-top : StoredOnTop
-stored-on-top = step-tree
+pub stored_on_top : StoredOnTop
+stored_on_top = step_tree
 
-pub new-root : NewRootAsked
-new-root = new-root-asked
+pub new_root_lem : NewRootAsked
+new_root_lem = new_root_asked
 
 module _ (r : Run) where
-  pub shape-does-not-show : ShapeFree r
-  shape-does-not-show = shape_free r.shape r.room r.entries r.start r.attributes r.calls
+  pub shape_does_not_show : ShapeFree r
+  shape_does_not_show = shape_free r.shape r.room r.entries r.start r.attributes r.calls
 
 module _ (r : Run) (allowed : Allowed r) where
   legal : Legal r.start r.attributes (taken r)
-  legal = legal-accepted r.shape r.room r.entries r.start r.attributes r.calls allowed.begins
+  legal = legal_accepted r.shape r.room r.entries r.start r.attributes r.calls allowed.begins
 
-  pub tree-sound : TreeSound r
-  tree-sound = let c = storable r.start r.attributes (taken r) legal in record {
-    sound = build-sound r.shape (left r).start (left r).stored allowed.shaped c.sane;
-    rooms = build-rooms r.shape allowed.shaped (left r).start (left r).stored c.sane;
+  pub tree_sound : TreeSound r
+  tree_sound = let c = storable r.start r.attributes (taken r) legal in record {
+    sound = build_sound r.shape (left r).start (left r).stored allowed.shaped c.sane;
+    rooms = build_rooms r.shape allowed.shaped (left r).start (left r).stored c.sane;
   }
 
-  pub stays-within-limits : WithinLimits r
-  stays-within-limits =
-      let w = within-limits r.shape r.room r.entries r.start r.attributes r.calls allowed.some in
+  pub stays_within_limits : WithinLimits r
+  stays_within_limits =
+      let w = within_limits r.shape r.room r.entries r.start r.attributes r.calls allowed.some in
       record { deep = w.0; used = w.1 }
 
-  pub nodes-numbered : Numbered r
-  nodes-numbered = numbered r.shape allowed.shaped r.start r.attributes (taken r) legal
+  pub nodes_numbered : Numbered r
+  nodes_numbered = numbered r.shape allowed.shaped r.start r.attributes (taken r) legal
 
-  pub each-node-once : EachNodeOnce r
+  pub each_node_once : EachNodeOnce r
   unfolding standing
-  each-node-once = nodes-perm (openEnd (left r)) (tree r).branch
+  each_node_once = nodes_perm (open_end (left r)) (tree r).branch
 
-  pub closed-kept : ClosedKept r
+  pub closed_kept : ClosedKept r
   unfolding accepted
-  closed-kept c i h x = go (eqb (refuse r.shape r.room r.entries (left r) c) 0) refl
+  closed_kept c i h x = go (eqb (refuse r.shape r.room r.entries (left r) c) 0) refl
     where
       go : (b : Bool) → eqb (refuse r.shape r.room r.entries (left r) c) 0 ≡ b
           → get_or (nodes (standing r.shape (history r.start r.attributes (cond b (c ∷ taken r) (taken r))))) i blank ≡ get_or (made r) i blank
       go true e = kept r.shape allowed.shaped r.start r.attributes c (taken r)
-          (legal-more r.shape r.room r.entries r.start r.attributes c (taken r) (eqb-true _ 0 e) legal) i h x
+          (legal_more r.shape r.room r.entries r.start r.attributes c (taken r) (eqb-true _ 0 e) legal) i h x
       go false e = refl
 
-  pub open-or-ended : OpenOrEnded r
-  open-or-ended = ended_by r.shape allowed.shaped r.start r.attributes (taken r) legal
+  pub open_or_ended : OpenOrEnded r
+  open_or_ended = ended_by r.shape allowed.shaped r.start r.attributes (taken r) legal
 
-  pub stored-once : StoredOnce r
-  stored-once = Permᴰ.trans (perm-intervals each-node-once) (stands-once r.shape r.start r.attributes (taken r) allowed.shaped legal)
+  pub stored_once : StoredOnce r
+  stored_once = Permᴰ.trans (perm_intervals each_node_once) (stands-once r.shape r.start r.attributes (taken r) allowed.shaped legal)
 
   pub one_covers : OneCovers r
   one_covers q t e =
-      let d = asked-single (left r) q t e in let w = told r.start r.attributes (taken r) q t legal d.0 d.1 d.2 in (w.0, w.1)
+      let d = asked_single (left r) q t e in let w = told r.start r.attributes (taken r) q t legal d.0 d.1 d.2 in (w.0, w.1)
 
-  pub single-scans : SingleScans r
-  single-scans q t e =
-      let d = asked-single (left r) q t e in
+  pub single_scans : SingleScans r
+  single_scans q t e =
+      let d = asked_single (left r) q t e in
       single-scan r.shape r.start r.attributes (taken r) allowed.shaped legal q t d.0 d.1 d.2
 
-  pub full-scans : FullScans r
-  full-scans t e = let d = asked-full (left r) t e in full-scan r.shape r.start r.attributes (taken r) allowed.shaped legal t d.0 d.1
+  pub full_scans : FullScans r
+  full_scans t e = let d = asked_full (left r) t e in full-scan r.shape r.start r.attributes (taken r) allowed.shaped legal t d.0 d.1
 
-  pub single-enters : SingleEnters r
-  single-enters = single-entered r.shape r.start r.attributes (taken r) allowed.shaped legal
+  pub single_enters : SingleEnters r
+  single_enters = single-entered r.shape r.start r.attributes (taken r) allowed.shaped legal
 
-  pub full-enters : FullEnters r
-  full-enters = full-entered r.shape r.start r.attributes (taken r) allowed.shaped legal
+  pub full_enters : FullEnters r
+  full_enters = full-entered r.shape r.start r.attributes (taken r) allowed.shaped legal
 
-  pub value-said : ValueSaid r
-  value-said q t e =
-      let d = asked-single (left r) q t e in
-      single-said r.shape r.start r.attributes (taken r) allowed.shaped legal q t d.0 d.1 d.2
+  pub value_said : ValueSaid r
+  value_said q t e =
+      let d = asked_single (left r) q t e in
+      single_said r.shape r.start r.attributes (taken r) allowed.shaped legal q t d.0 d.1 d.2
 
-  pub full-said : FullSaid r
-  full-said t e =
-      let d = asked-full (left r) t e in
-      let w = scans-said r.start r.attributes (taken r) t (left r).attributes legal (omega arith) d.0 d.1 in
-      (ap (map (λ x. x.quark)) (full-scans t e) ∙ w.0, ap (map (λ x. x.state)) (full-scans t e) ∙ w.1)
+  pub full_said : FullSaid r
+  full_said t e =
+      let d = asked_full (left r) t e in
+      let w = scans_said r.start r.attributes (taken r) t (left r).attributes legal (omega arith) d.0 d.1 in
+      (ap (map (λ x. x.quark)) (full_scans t e) ∙ w.0, ap (map (λ x. x.state)) (full_scans t e) ∙ w.1)
 
-  pub walked-by-place : WalkedByPlace r
-  walked-by-place = let w = walked r.shape allowed.shaped r.start r.attributes (taken r) legal in
-      record { root = w.0; below = w.1; rooted = w.2; walked = λ t e. let d = asked-full (left r) t e in w.3 t d.0 d.1 }
+  pub walked_by_place : WalkedByPlace r
+  walked_by_place = let w = walked r.shape allowed.shaped r.start r.attributes (taken r) legal in
+      record { root = w.0; below = w.1; rooted = w.2; walked = λ t e. let d = asked_full (left r) t e in w.3 t d.0 d.1 }
 
-  pub nodes-sit : NodesSit r
-  nodes-sit = passes r.shape allowed.shaped r.start r.attributes (taken r) legal
+  pub nodes_sit : NodesSit r
+  nodes_sit = passes r.shape allowed.shaped r.start r.attributes (taken r) legal
 
-  pub quarks-known : QuarksKnown r
-  quarks-known =
-      perm-known (left r).attributes (perm-intervals each-node-once) (quarks r.shape allowed.shaped r.start r.attributes (taken r) legal)
+  pub quarks_known : QuarksKnown r
+  quarks_known =
+      perm_known (left r).attributes (perm_intervals each_node_once) (quarks r.shape allowed.shaped r.start r.attributes (taken r) legal)
 
   pub one_found : OneFound r
   one_found q t e =
-      let d = asked-single (left r) q t e in
+      let d = asked_single (left r) q t e in
       found-one r.shape r.start r.attributes (taken r) allowed.shaped legal q t d.0 d.1 d.2
 
-  pub values-64 : Values64 r
-  values-64 a = let s = stored-within r.shape r.room r.entries r.start r.attributes r.calls a in record {
-    table = table-within r.shape r.room r.entries r.start r.attributes r.calls a;
+  pub values_64 : Values64 r
+  values_64 a = let s = stored_within r.shape r.room r.entries r.start r.attributes r.calls a in record {
+    table = table_within r.shape r.room r.entries r.start r.attributes r.calls a;
     stored = s;
-    held = perm-within stored-once s;
+    held = perm_within stored_once s;
   }

@@ -8,8 +8,8 @@ use lib.Dec.{ltb, eqb}
 use Rattle.model.specs.Transient.{Interval, Call, History, stores, history}
 use Rattle.model.specs.Build.{Shape, Tree, onto, depth}
 use Rattle.model.specs.Nodes.{tree_of}
-use Rattle.model.specs.Refusals.{sooner, limit, limits, refuseStated, refuse, accepted}
-use Rattle.model.specs.Theorems.{acceptedStated, Unlimited}
+use Rattle.model.specs.Refusals.{sooner, limit, limits, refuse_stated, refuse, accepted}
+use Rattle.model.specs.Theorems.{accepted_stated, Unlimited}
 
 -- the answers of the limits
 abbrev Limiting : ℕ → Type 0
@@ -23,31 +23,31 @@ limit_is N t = go (ltb 16 (depth t.branch)) (ltb N t.used)
     go false true = inr (inr refl)
     go false false = inl refl
 
-sooner-is : (a b : ℕ) → Limiting a → Limiting b → Limiting (sooner a b)
-sooner-is zero b x y = y
-sooner-is (suc a) b x y = x
+sooner_is : (a b : ℕ) → Limiting a → Limiting b → Limiting (sooner a b)
+sooner_is zero b x y = y
+sooner_is (suc a) b x y = x
 
-limits-are : (sh : Shape) (N : ℕ) (ivs : List Interval) (t : Tree) → Limiting (limits sh N ivs t)
+limits_are : (sh : Shape) (N : ℕ) (ivs : List Interval) (t : Tree) → Limiting (limits sh N ivs t)
 unfolding limits
-limits-are sh N [] t = inl refl
-limits-are sh N (iv ∷ earlier) t = sooner-is _ _ (limits-are sh N earlier t) (limit_is N (onto sh (iv ∷ earlier) t))
+limits_are sh N [] t = inl refl
+limits_are sh N (iv ∷ earlier) t = sooner_is _ _ (limits_are sh N earlier t) (limit_is N (onto sh (iv ∷ earlier) t))
 
 -- an answer that is neither 10 nor 11
-stated-only : (a b : ℕ) → Limiting b → (sooner a b ≡ 10 → ⊥) → (sooner a b ≡ 11 → ⊥) → sooner a b ≡ a
-stated-only zero b (inl e) x y = e
-stated-only zero b (inr (inl e)) x y = absurd (x e)
-stated-only zero b (inr (inr e)) x y = absurd (y e)
-stated-only (suc a) b l x y = refl
+stated_only : (a b : ℕ) → Limiting b → (sooner a b ≡ 10 → ⊥) → (sooner a b ≡ 11 → ⊥) → sooner a b ≡ a
+stated_only zero b (inl e) x y = e
+stated_only zero b (inr (inl e)) x y = absurd (x e)
+stated_only zero b (inr (inr e)) x y = absurd (y e)
+stated_only (suc a) b l x y = refl
 
-refused-stated : (sh : Shape) (N M : ℕ) (l : History) (c : Call) → (refuse sh N M l c ≡ 10 → ⊥) → (refuse sh N M l c ≡ 11 → ⊥)
-    → refuse sh N M l c ≡ refuseStated M l c
+refused_stated : (sh : Shape) (N M : ℕ) (l : History) (c : Call) → (refuse sh N M l c ≡ 10 → ⊥) → (refuse sh N M l c ≡ 11 → ⊥)
+    → refuse sh N M l c ≡ refuse_stated M l c
 unfolding refuse
-refused-stated sh N M l c x y = stated-only (refuseStated M l c) _ (limits-are sh N (stores c l) (tree_of sh l)) x y
+refused_stated sh N M l c x y = stated_only (refuse_stated M l c) _ (limits_are sh N (stores c l) (tree_of sh l)) x y
 
-pub shape_free : (sh : Shape) (N M s n : ℕ) (cs : List Call) → Unlimited sh N M s n cs → accepted sh N M s n cs ≡ acceptedStated M s n cs
-unfolding accepted acceptedStated Unlimited
+pub shape_free : (sh : Shape) (N M s n : ℕ) (cs : List Call) → Unlimited sh N M s n cs → accepted sh N M s n cs ≡ accepted_stated M s n cs
+unfolding accepted accepted_stated Unlimited
 shape_free sh N M s n [] u = refl
 shape_free sh N M s n (c ∷ cs) u =
     let a = accepted sh N M s n cs in
-    ap (λ z. cond (eqb z 0) (c ∷ a) a) (refused-stated sh N M (history s n a) c u.0 u.1)
-    ∙ ap (λ z. cond (eqb (refuseStated M (history s n z) c) 0) (c ∷ z) z) (shape_free sh N M s n cs u.2)
+    ap (λ z. cond (eqb z 0) (c ∷ a) a) (refused_stated sh N M (history s n a) c u.0 u.1)
+    ∙ ap (λ z. cond (eqb (refuse_stated M (history s n z) c) 0) (c ∷ z) z) (shape_free sh N M s n cs u.2)

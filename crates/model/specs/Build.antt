@@ -64,33 +64,33 @@ abbrev pub having : Subtrees → Open → Open
 having k f = record { head = f.head; closed = k }
 
 -- The children k of a node, when the open nodes below it close with the end S: g, the lowest, closes under the next one, and so on up, the last one under the node.
-abbrev pub closeUnder : ℕ → Open → List Open → Subtrees → Subtrees
-closeUnder S g [] k = also k g.head S g.closed
-closeUnder S g (p ∷ below) k = closeUnder S (adopt S g p) below k
+abbrev pub close_under : ℕ → Open → List Open → Subtrees → Subtrees
+close_under S g [] k = also k g.head S g.closed
+close_under S g (p ∷ below) k = close_under S (adopt S g p) below k
 
-abbrev pub withBelow : ℕ → List Open → Subtrees → Subtrees
-withBelow S [] k = k
-withBelow S (g ∷ below) k = closeUnder S g below k
+abbrev pub with_below : ℕ → List Open → Subtrees → Subtrees
+with_below S [] k = k
+with_below S (g ∷ below) k = close_under S g below k
 
 -- f as it is when it closes: "Closing gives the node and all open nodes below it the end S."
 abbrev pub gathered : ℕ → List Open → Open → Open
-gathered S below f = having (withBelow S below f.closed) f
+gathered S below f = having (with_below S below f.closed) f
 
 -- "a new root is made first: one level higher, starting at the history's start, with the old root as its only child": o is that start, f the old root, which
 -- closes with the end S, and q the sequence number
-abbrev pub newRoot : ℕ → ℕ → ℕ → Open → Open
-newRoot o S q f = record { head = record { level = suc f.head.level; seq = q; start = o; held = [] }; closed = also childless f.head S f.closed }
+abbrev pub new_root : ℕ → ℕ → ℕ → Open → Open
+new_root o S q f = record { head = record { level = suc f.head.level; seq = q; start = o; held = [] }; closed = also childless f.head S f.closed }
 
 -- "a chain of new nodes down to level 0, all starting one after that last end, and store in the lowest": the n levels below `above`, starting at a, with
 -- "Sequence numbers go up by one, .. a chain from the top", from q on
-abbrev pub inLowest : ℕ → Interval → List Interval
-inLowest zero iv = iv ∷ []
-inLowest (suc n) iv = []
+abbrev pub in_lowest : ℕ → Interval → List Interval
+in_lowest zero iv = iv ∷ []
+in_lowest (suc n) iv = []
 
 abbrev pub chain : ℕ → ℕ → ℕ → Interval → List Open → List Open
 chain zero q a iv above = above
 chain (suc n) q a iv above =
-    chain n (suc q) a iv (record { head = record { level = n; seq = q; start = a; held = inLowest n iv }; closed = childless } ∷ above)
+    chain n (suc q) a iv (record { head = record { level = n; seq = q; start = a; held = in_lowest n iv }; closed = childless } ∷ above)
 
 -- ═══ The two rules ═══
 
@@ -121,8 +121,8 @@ grown q iv f above = record { used = q + f.head.level; branch = chain f.head.lev
 module _ (sh : Shape) (iv : Interval) (o S q : ℕ) where
   -- The question put to a new root r, numbered q. It has one child and no interval: where a child is due, rule 1 makes the chain (1 is fewer than C), otherwise
   -- rule 2 stores (0 is fewer than K). That this is its verdict is the theorem `NewRootAsked`.
-  abbrev pub askNew : Open → Grown
-  askNew r = cond (due [] r iv.start) (grown (suc q) iv r []) (record { used = suc q; branch = store iv r ∷ [] })
+  abbrev pub ask_new : Open → Grown
+  ask_new r = cond (due [] r iv.start) (grown (suc q) iv r []) (record { used = suc q; branch = store iv r ∷ [] })
 
   -- The question put to f, with the open nodes `below` it and `above` it. "Closing gives the node and all open nodes below it the end S. Then the same question
   -- is put again to the parent. If the root was closed, a new root is made first".
@@ -130,7 +130,7 @@ module _ (sh : Shape) (iv : Interval) (o S q : ℕ) where
   ask below f [] = elim (verdict sh below f iv.start) [
     | grow ↦ grown q iv f []
     | keep ↦ record { used = q; branch = below ++ store iv f ∷ [] }
-    | shut ↦ askNew (newRoot o S q (gathered S below f))
+    | shut ↦ ask_new (new_root o S q (gathered S below f))
   ]
   ask below f (p ∷ above) = elim (verdict sh below f iv.start) [
     | grow ↦ grown q iv f (p ∷ above)

@@ -41,14 +41,14 @@ preorder p (also ks h e k) = preorder p ks ++ node p h e k ∷ preorder (some h.
 
 -- The same nodes in the order of their making: a root is made after its first child and all that is below that, and before its other children. The theorems
 -- `Numbered` and `EachNodeOnce` say that this is the order of the sequence numbers, and that no node is left out.
-abbrev pub ifChildless : Subtrees → List Node → List Node → List Node
-ifChildless childless a b = a
-ifChildless (also ks h e k) a b = b
+abbrev pub if_childless : Subtrees → List Node → List Node → List Node
+if_childless childless a b = a
+if_childless (also ks h e k) a b = b
 
 abbrev pub spine : Node → Subtrees → List Node
 spine x childless = x ∷ []
 spine x (also ks h e k) = let n = node (some x.seq) h e k in
-    ifChildless ks (spine n k ++ x ∷ []) (spine x ks ++ n ∷ preorder (some h.seq) k)
+    if_childless ks (spine n k ++ x ∷ []) (spine x ks ++ n ∷ preorder (some h.seq) k)
 
 abbrev pub nodes : Subtrees → List Node
 nodes childless = []
@@ -63,24 +63,24 @@ placed i = i
 
 -- A branch with all its open nodes closed with the end e, as the one child of nothing: "then closes all open nodes with end T". With 2^64-1 for e it is the
 -- tree as it stands while it is open.
-abbrev pub closeUp : ℕ → Open → List Open → Subtrees
-closeUp e f [] = also childless f.head e f.closed
-closeUp e f (p ∷ above) = closeUp e (adopt e f p) above
+abbrev pub close_up : ℕ → Open → List Open → Subtrees
+close_up e f [] = also childless f.head e f.closed
+close_up e f (p ∷ above) = close_up e (adopt e f p) above
 
-abbrev pub closeAll : ℕ → List Open → Subtrees
-closeAll e [] = childless
-closeAll e (f ∷ above) = closeUp e f above
+abbrev pub close_all : ℕ → List Open → Subtrees
+close_all e [] = childless
+close_all e (f ∷ above) = close_up e f above
 
 -- the tree that "the build rule makes afresh from the accepted calls"
 abbrev pub tree_of : Shape → History → Tree
 tree_of sh l = build sh l.start l.stored
 
 -- the end of the nodes that the build rule left open: 2^64-1, and after "Finish at T" it is T
-abbrev pub openEnd : History → ℕ
-openEnd l = cond l.finished l.latest ∞
+abbrev pub open_end : History → ℕ
+open_end l = cond l.finished l.latest ∞
 
 unfoldable pub standing : Shape → History → Subtrees
-standing sh l = closeAll (openEnd l) (tree_of sh l).branch
+standing sh l = close_all (open_end l) (tree_of sh l).branch
 
 -- ═══ Numbers ═══
 

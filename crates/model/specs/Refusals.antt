@@ -19,10 +19,10 @@ sooner (suc a) b = suc a
 -- ═══ What the calls alone decide: no K, C or N ═══
 
 -- "9 increment of 2^63-1"
-abbrev pub passesTop : Change → State → Bool
-passesTop (set v) old = false
-passesTop remove old = false
-passesTop increment old = is_top old
+abbrev pub passes_top : Change → State → Bool
+passes_top (set v) old = false
+passes_top remove old = false
+passes_top increment old = is_top old
 
 -- "change .. 4, 7, .. 6, 5, 9"; "adding .. 4, 8"; "finish .. 4, .. 6, 5", where the table has M entries:
 -- 4 finished; 7 no such quark; 6 above 2^63-1; 5 earlier than the latest time; 8 attribute table full, or 4,096 attributes
@@ -32,13 +32,13 @@ tests M l (change t q c) =
     ∷ (leb l.attributes q, 7)
     ∷ (ltb (2 ^ 63 - 1) t, 6)
     ∷ (ltb t l.latest, 5)
-    ∷ (passesTop c (l.table q).state, 9)
+    ∷ (passes_top c (l.table q).state, 9)
     ∷ []
 tests M l add = (l.finished, 4) ∷ (leb M l.attributes || leb 4096 l.attributes, 8) ∷ []
 tests M l (finish t) = (l.finished, 4) ∷ (ltb (2 ^ 63 - 1) t, 6) ∷ (ltb t l.latest, 5) ∷ []
 
-unfoldable pub refuseStated : ℕ → History → Call → ℕ
-refuseStated M l c = first_of (tests M l c)
+unfoldable pub refuse_stated : ℕ → History → Call → ℕ
+refuse_stated M l c = first_of (tests M l c)
 
 -- ═══ The limits: "Depth and room count what the rule would need." ═══
 
@@ -55,7 +55,7 @@ limits sh N (iv ∷ earlier) t = sooner (limits sh N earlier t) (limit N (onto s
 
 -- "change .. 4, 7, .. 6, 5, 9, 10, 11; finish .. 4, .. 6, 5, 10, 11; adding .. 4, 8"
 unfoldable pub refuse : Shape → ℕ → ℕ → History → Call → ℕ
-refuse sh N M l c = sooner (refuseStated M l c) (limits sh N (stores c l) (tree_of sh l))
+refuse sh N M l c = sooner (refuse_stated M l c) (limits sh N (stores c l) (tree_of sh l))
 
 -- Of a sequence of calls, those that were accepted: a refused one leaves everything as it was.
 unfoldable pub accepted : Shape → ℕ → ℕ → ℕ → ℕ → List Call → List Call
@@ -69,8 +69,8 @@ abbrev pub asked : History → ℕ → Bool
 asked l t = leb l.start t && leb t l.latest
 
 -- "query .. 7, 6": 6, in a query, before start or after latest
-abbrev pub refuseSingle : History → ℕ → ℕ → ℕ
-refuseSingle l q t = first_of ((leb l.attributes q, 7) ∷ (not (asked l t), 6) ∷ [])
+abbrev pub refuse_single : History → ℕ → ℕ → ℕ
+refuse_single l q t = first_of ((leb l.attributes q, 7) ∷ (not (asked l t), 6) ∷ [])
 
-abbrev pub refuseFull : History → ℕ → ℕ
-refuseFull l t = first_of ((not (asked l t), 6) ∷ [])
+abbrev pub refuse_full : History → ℕ → ℕ
+refuse_full l t = first_of ((not (asked l t), 6) ∷ [])

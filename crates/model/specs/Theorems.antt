@@ -4,10 +4,10 @@ use mathlib.Core.List.{List, [], ◌∷◌, ◌++◌, map, foldl, reverse, Perm�
 use Rattle.std.proofs.Math.Option.{none}
 use Rattle.model.specs.State.{State, int, Within64}
 use Rattle.model.specs.Transient.{Interval, Change, set, remove, increment, Call, change, add, finish, History, stores, step, history}
-use Rattle.model.specs.Build.{Head, Subtrees, childless, also, Open, Shape, Tree, planted, newRoot, due, grow, keep, verdict, insert, onto, build, depth}
-use Rattle.model.specs.Nodes.{∞, Node, blank, preorder, nodes, placed, tree_of, openEnd, standing, seqs, upto, intervals}
+use Rattle.model.specs.Build.{Head, Subtrees, childless, also, Open, Shape, Tree, planted, new_root, due, grow, keep, verdict, insert, onto, build, depth}
+use Rattle.model.specs.Nodes.{∞, Node, blank, preorder, nodes, placed, tree_of, open_end, standing, seqs, upto, intervals}
 use Rattle.model.specs.Questions.{only, covers, ongoing, current, scan, scans, tally, walk, chase, single, full, said}
-use Rattle.model.specs.Refusals.{refuseStated, refuse, accepted, refuseSingle, refuseFull}
+use Rattle.model.specs.Refusals.{refuse_stated, refuse, accepted, refuse_single, refuse_full}
 use Rattle.model.specs.Invariant.{Shaped, Sound, Rooms}
 use Rattle.model.specs.Rules.{Sits, Known}
 
@@ -70,9 +70,9 @@ StoredInOrder = (sh : Shape) (s : ℕ) (ivs : List Interval) → build sh s (rev
 abbrev pub StoredOnTop : Type 0
 StoredOnTop = (sh : Shape) (c : Call) (l : History) → tree_of sh (step c l) ≡ onto sh (stores c l) (tree_of sh l)
 
--- A new root answers the question by rule 1 or 2, and is never closed in the same call: this is what `askNew` makes of it.
+-- A new root answers the question by rule 1 or 2, and is never closed in the same call: this is what `ask_new` makes of it.
 abbrev pub NewRootAsked : Type 0
-NewRootAsked = (sh : Shape) → Shaped sh → (o S q s : ℕ) (f : Open) → let r = newRoot o S q f in verdict sh [] r s ≡ cond (due [] r s) grow keep
+NewRootAsked = (sh : Shape) → Shaped sh → (o S q s : ℕ) (f : Open) → let r = new_root o S q f in verdict sh [] r s ≡ cond (due [] r s) grow keep
 
 -- ═══ Nodes ═══
 
@@ -102,14 +102,14 @@ StoredOnce r = Permᴰ (intervals (made r)) (left r).stored
 
 -- For each attribute exactly one interval, stored or ongoing, covers each t from start to latest.
 abbrev pub OneCovers : Run → Type 0
-OneCovers r = (q t : ℕ) → refuseSingle (left r) q t ≡ 0 → (x : Interval) × (scan (left r) q t ≡ x ∷ [])
+OneCovers r = (q t : ℕ) → refuse_single (left r) q t ≡ 0 → (x : Interval) × (scan (left r) q t ≡ x ∷ [])
 
 -- "Each accepted question answers as a scan over all intervals does."
 abbrev pub SingleScans : Run → Type 0
-SingleScans r = (q t : ℕ) → refuseSingle (left r) q t ≡ 0 → (single r.shape (left r) q t).found ≡ scan (left r) q t
+SingleScans r = (q t : ℕ) → refuse_single (left r) q t ≡ 0 → (single r.shape (left r) q t).found ≡ scan (left r) q t
 
 abbrev pub FullScans : Run → Type 0
-FullScans r = (t : ℕ) → refuseFull (left r) t ≡ 0 → (full r.shape (left r) t).found ≡ scans (left r) t (left r).attributes
+FullScans r = (t : ℕ) → refuse_full (left r) t ≡ 0 → (full r.shape (left r) t).found ≡ scans (left r) t (left r).attributes
 
 -- "The nodes entered are as many as have bounds holding t, or none where a single question is answered by an ongoing state."
 abbrev pub SingleEnters : Run → Type 0
@@ -120,24 +120,24 @@ FullEnters r = (t : ℕ) → length (full r.shape (left r) t).entered ≡ tally 
 
 -- "a question about an attribute at t, from the start to the latest accepted time, gives the value of its last accepted change not after t, or null"
 abbrev pub ValueSaid : Run → Type 0
-ValueSaid r = (q t : ℕ) → refuseSingle (left r) q t ≡ 0
+ValueSaid r = (q t : ℕ) → refuse_single (left r) q t ≡ 0
     → (x : Interval) × ((single r.shape (left r) q t).found ≡ x ∷ []) × (x.state ≡ said (taken r) q t)
 
 -- A full question gives "one interval entry per attribute, in quark order", each with the state that was said last.
-abbrev pub allSaid : List Call → ℕ → ℕ → List State
-allSaid cs t zero = []
-allSaid cs t (suc n) = allSaid cs t n ++ said cs n t ∷ []
+abbrev pub all_said : List Call → ℕ → ℕ → List State
+all_said cs t zero = []
+all_said cs t (suc n) = all_said cs t n ++ said cs n t ∷ []
 
 abbrev pub FullSaid : Run → Type 0
-FullSaid r = (t : ℕ) → refuseFull (left r) t ≡ 0 → let xs = (full r.shape (left r) t).found in
-    (map (λ x. x.quark) xs ≡ upto (left r).attributes) × (map (λ x. x.state) xs ≡ allSaid (taken r) t (left r).attributes)
+FullSaid r = (t : ℕ) → refuse_full (left r) t ≡ 0 → let xs = (full r.shape (left r) t).found in
+    (map (λ x. x.quark) xs ≡ upto (left r).attributes) × (map (λ x. x.state) xs ≡ all_said (taken r) t (left r).attributes)
 
 -- The walk by places, from the root's place and with its level for the number of steps, is the walk.
 pub record WalkedByPlace (r : Run) : Type 0 where
   pub root : Head
   pub below : Subtrees
-  pub rooted : stands r ≡ also childless root (openEnd (left r)) below
-  pub walked : (t : ℕ) → refuseFull (left r) t ≡ 0 → chase (suc root.level) t (made r) root.seq ≡ walk t none (stands r)
+  pub rooted : stands r ≡ also childless root (open_end (left r)) below
+  pub walked : (t : ℕ) → refuse_full (left r) t ≡ 0 → chase (suc root.level) t (made r) root.seq ≡ walk t none (stands r)
 
 -- ═══ R1 to R7 hold, so no question on such a history is answered 3 ═══
 
@@ -152,7 +152,7 @@ QuarksKnown r = Known (left r).attributes (intervals (made r))
 
 -- R7 "for each quark asked, exactly one covering interval over walk and, until finish, ongoing table"
 abbrev pub OneFound : Run → Type 0
-OneFound r = (q t : ℕ) → refuseSingle (left r) q t ≡ 0
+OneFound r = (q t : ℕ) → refuse_single (left r) q t ≡ 0
     → (x : Interval) × (current (left r) q t ++ only (covers q t) (intervals (walk t none (stands r))) ≡ x ∷ [])
 
 -- ═══ Values ═══
@@ -185,9 +185,9 @@ Values64 r = Calls64 r.calls → History64 r
 -- ═══ The shape does not show ═══
 
 -- the calls that would be accepted if no limit were met: no K, C or N
-unfoldable pub acceptedStated : ℕ → ℕ → ℕ → List Call → List Call
-acceptedStated M s n [] = []
-acceptedStated M s n (c ∷ cs) = let a = acceptedStated M s n cs in cond (eqb (refuseStated M (history s n a) c) 0) (c ∷ a) a
+unfoldable pub accepted_stated : ℕ → ℕ → ℕ → List Call → List Call
+accepted_stated M s n [] = []
+accepted_stated M s n (c ∷ cs) = let a = accepted_stated M s n cs in cond (eqb (refuse_stated M (history s n a) c) 0) (c ∷ a) a
 
 -- no call is answered 10 or 11
 unfoldable pub Unlimited : Shape → ℕ → ℕ → ℕ → ℕ → List Call → Type 0
@@ -198,4 +198,4 @@ Unlimited sh N M s n (c ∷ cs) =
 -- Where no call is answered 10 or 11, the calls alone decide which of them are accepted, and so what they leave and what was said.
 abbrev pub ShapeFree : Run → Type 0
 ShapeFree r = Unlimited r.shape r.room r.entries r.start r.attributes r.calls
-    → taken r ≡ acceptedStated r.entries r.start r.attributes r.calls
+    → taken r ≡ accepted_stated r.entries r.start r.attributes r.calls

@@ -63,21 +63,21 @@ after replaced o v t = record { state = v; start = t }
 after ended o v t = record { state = v; start = t }
 
 -- and the interval that is stored, if any
-abbrev pub toStore : Effect → ℕ → Ongoing → ℕ → List Interval
-toStore stays q o t = []
-toStore replaced q o t = []
-toStore ended q o t = record { quark = q; state = o.state; start = o.start; end = t - 1 } ∷ []
+abbrev pub to_store : Effect → ℕ → Ongoing → ℕ → List Interval
+to_store stays q o t = []
+to_store replaced q o t = []
+to_store ended q o t = record { quark = q; state = o.state; start = o.start; end = t - 1 } ∷ []
 
 -- "Finish at T stores, in quark order, every ongoing interval with end T": those of the quarks below n, the latest first.
-abbrev pub lastIntervals : (ℕ → Ongoing) → ℕ → ℕ → List Interval
-lastIntervals f T zero = []
-lastIntervals f T (suc n) = record { quark = n; state = (f n).state; start = (f n).start; end = T } ∷ lastIntervals f T n
+abbrev pub last_intervals : (ℕ → Ongoing) → ℕ → ℕ → List Interval
+last_intervals f T zero = []
+last_intervals f T (suc n) = record { quark = n; state = (f n).state; start = (f n).start; end = T } ∷ last_intervals f T n
 
 -- the intervals that a call stores, the latest first
 unfoldable pub stores : Call → History → List Interval
-stores (change t q c) l = toStore (effect (becomes c (l.table q).state) (l.table q) t) q (l.table q) t
+stores (change t q c) l = to_store (effect (becomes c (l.table q).state) (l.table q) t) q (l.table q) t
 stores add l = []
-stores (finish t) l = lastIntervals l.table t l.attributes
+stores (finish t) l = last_intervals l.table t l.attributes
 
 -- the table with the entry o for q
 abbrev pub put : (ℕ → Ongoing) → ℕ → Ongoing → ℕ → Ongoing

@@ -8,25 +8,25 @@ use lib.Dec.{T, ltb}
 use lib.ListN.{length}
 use lib.Seq.{sets, length-sets}
 use Rattle.words.specs.Words.{le}
-use Rattle.words.proofs.Numbers.{length-le}
-use Rattle.words.proofs.Stores.{sets-append, sets-comm}
-use Rattle.layout.specs.Layout.{entrySize, entryBytes}
+use Rattle.words.proofs.Numbers.{length_le}
+use Rattle.words.proofs.Stores.{sets_append, sets_comm}
+use Rattle.layout.specs.Layout.{entry_size, entry_bytes}
 use Rattle.record.specs.declared.Refusal.{Refusal}
 use Rattle.record.specs.declared.Refusal.TheVariants.{Nothing, Short, Damaged, Outside, NoQuark}
 use Rattle.record.specs.Refusals.{number_of, accepted}
 use Rattle.walk.specs.declared.View.{View}
 use Rattle.questions.specs.declared.Single.{Single}
 use Rattle.full_question.specs.declared.Full.{Full}
-use Rattle.walk.specs.View.{viewSound, longFor, asked}
+use Rattle.walk.specs.View.{view_sound, long_for, asked}
 use Rattle.walk.specs.Walk.{walk_of}
-use Rattle.questions.specs.Single.{refusedSingle, told, toldEntry, walkedSingle}
-use Rattle.full_question.specs.Full.{fullEntries, walkedRefusal, walkedFull, walkedWritten}
-use Rattle.page.specs.Page.{finishedView, headRefusal, singleRefusal, singleBytes, singleWritten, fullRefusal, fullBytes, fullWritten}
-use Rattle.page.proofs.Heads.{Admitted, zero-nothing, some-refused, nothing-admitted}
+use Rattle.questions.specs.Single.{refused_single, told, told_entry, walked_single}
+use Rattle.full_question.specs.Full.{full_entries, walked_refusal, walked_full, walked_written}
+use Rattle.page.specs.Page.{finished_view, head_refusal, single_refusal, single_bytes, single_written, full_refusal, full_bytes, full_written}
+use Rattle.page.proofs.Heads.{Admitted, zero_nothing, some_refused, nothing_admitted}
 
 -- the count of nodes, then the entries
 after-count : (b : List ℕ) (n : ℕ) (e : List ℕ) → sets b 0 (le 8 n ++ e) ≡ sets (sets b 0 (le 8 n)) 8 e
-after-count b n e = simp (sets-append, length-le)
+after-count b n e = simp (sets_append, length_le)
 
 -- ---- four tests before the rest: they decide, or the rest does
 
@@ -44,50 +44,50 @@ head-decides false b c d r e = refl
 -- ---- the single
 
 abbrev OneSaid : View → ℕ → ℕ → List ℕ → List ℕ → ℕ → List ℕ → Type 0
-OneSaid v t q l b r c = (r ≡ number_of (singleRefusal v t q l (length b))) × (c ≡ singleWritten v t q l b)
+OneSaid v t q l b r c = (r ≡ number_of (single_refusal v t q l (length b))) × (c ≡ single_written v t q l b)
 
 module _ (v : View) (t q : ℕ) (l b : List ℕ) where
-  one-refused : (x : Refusal) (a : ℕ) → singleRefusal v t q l (length b) ≡ x → a ≡ number_of x → accepted x ≡ false → OneSaid v t q l b a b
-  unfolding singleWritten
+  one-refused : (x : Refusal) (a : ℕ) → single_refusal v t q l (length b) ≡ x → a ≡ number_of x → accepted x ≡ false → OneSaid v t q l b a b
+  unfolding single_written
   one-refused x a d e n = (rw d e, rw (d, n))
 
-  module _ (r : Refusal) (a : ℕ) (is : r ≡ headRefusal v (length l) (length b) (8 + entrySize) (ltb q v.attributes) t) (tells : a ≡ number_of r) where
+  module _ (r : Refusal) (a : ℕ) (is : r ≡ head_refusal v (length l) (length b) (8 + entry_size) (ltb q v.attributes) t) (tells : a ≡ number_of r) where
     pub one-head : (a ≡ 0 → ⊥) → OneSaid v t q l b a b
-    unfolding singleRefusal headRefusal head
+    unfolding single_refusal head_refusal head
     one-head n =
-        let f = some-refused r a tells n in
+        let f = some_refused r a tells n in
         one-refused r a
-        (head-decides (viewSound v) (not (longFor v (length l) 0) || ltb (length b) (8 + entrySize)) (ltb q v.attributes) (asked v t) _ (ap accepted (sym is) ∙ f) ∙ sym is) tells f
+        (head-decides (view_sound v) (not (long_for v (length l) 0) || ltb (length b) (8 + entry_size)) (ltb q v.attributes) (asked v t) _ (ap accepted (sym is) ∙ f) ∙ sym is) tells f
 
-    module _ (z : a ≡ 0) (s : Single) (walks : s ≡ walkedSingle v t q l) (x : Refusal) (k : ℕ) (has : x ≡ s.refusal) (says : k ≡ number_of x) where
-      admitted : Admitted v l (length b) (8 + entrySize) (ltb q v.attributes) t
-      admitted = nothing-admitted v l (length b) (8 + entrySize) (ltb q v.attributes) t (sym is ∙ zero-nothing r a tells z)
+    module _ (z : a ≡ 0) (s : Single) (walks : s ≡ walked_single v t q l) (x : Refusal) (k : ℕ) (has : x ≡ s.refusal) (says : k ≡ number_of x) where
+      admitted : Admitted v l (length b) (8 + entry_size) (ltb q v.attributes) t
+      admitted = nothing_admitted v l (length b) (8 + entry_size) (ltb q v.attributes) t (sym is ∙ zero_nothing r a tells z)
 
-      rest : singleRefusal v t q l (length b) ≡ cond (not (told v t q l)) Damaged Nothing
-      unfolding singleRefusal
+      rest : single_refusal v t q l (length b) ≡ cond (not (told v t q l)) Damaged Nothing
+      unfolding single_refusal
       rest = let d = admitted in rw (d.sound, d.long, d.knows, d.asks)
 
-      same : singleRefusal v t q l (length b) ≡ x
-      unfolding walkedSingle refusedSingle
+      same : single_refusal v t q l (length b) ≡ x
+      unfolding walked_single refused_single
       same = rest ∙ go (told v t q l) ∙ sym (has ∙ ap (λ (y : Single). y.refusal) walks)
         where
-          go : (y : Bool) → cond (not y) Damaged Nothing ≡ (cond y (record { refusal = Nothing; nodes = (walk_of l v t).entered; entry = toldEntry v t q l }) (refusedSingle Damaged)).refusal
+          go : (y : Bool) → cond (not y) Damaged Nothing ≡ (cond y (record { refusal = Nothing; nodes = (walk_of l v t).entered; entry = told_entry v t q l }) (refused_single Damaged)).refusal
           go true = refl
           go false = refl
 
       pub one-walked : (k ≡ 0 → ⊥) → OneSaid v t q l b k b
-      one-walked n = one-refused x k same says (some-refused x k says n)
+      one-walked n = one-refused x k same says (some_refused x k says n)
 
-      pub one_told : (c d : List ℕ) → k ≡ 0 → c ≡ sets b 0 (le 8 s.nodes) → d ≡ sets c 8 (entryBytes s.entry) → OneSaid v t q l b 0 d
-      unfolding singleWritten singleBytes walkedSingle number_of
+      pub one_told : (c d : List ℕ) → k ≡ 0 → c ≡ sets b 0 (le 8 s.nodes) → d ≡ sets c 8 (entry_bytes s.entry) → OneSaid v t q l b 0 d
+      unfolding single_written single_bytes walked_single number_of
       one_told c d e p g =
-          let n : singleRefusal v t q l (length b) ≡ Nothing = same ∙ zero-nothing x k says e in
+          let n : single_refusal v t q l (length b) ≡ Nothing = same ∙ zero_nothing x k says e in
           let y : told v t q l ≡ true = go (told v t q l) (sym rest ∙ n) in
-          let w : s ≡ record { refusal = Nothing; nodes = (walk_of l v t).entered; entry = toldEntry v t q l } = rw y at walks in
-          let f : d ≡ sets b 0 (le 8 (walk_of l v t).entered ++ entryBytes (toldEntry v t q l)) =
-          g ∙ ap (λ (m : List ℕ). sets m 8 (entryBytes s.entry)) p
-          ∙ ap (λ (m : Single). sets (sets b 0 (le 8 m.nodes)) 8 (entryBytes m.entry)) w
-          ∙ sym (after-count b (walk_of l v t).entered (entryBytes (toldEntry v t q l))) in
+          let w : s ≡ record { refusal = Nothing; nodes = (walk_of l v t).entered; entry = told_entry v t q l } = rw y at walks in
+          let f : d ≡ sets b 0 (le 8 (walk_of l v t).entered ++ entry_bytes (told_entry v t q l)) =
+          g ∙ ap (λ (m : List ℕ). sets m 8 (entry_bytes s.entry)) p
+          ∙ ap (λ (m : Single). sets (sets b 0 (le 8 m.nodes)) 8 (entry_bytes m.entry)) w
+          ∙ sym (after-count b (walk_of l v t).entered (entry_bytes (told_entry v t q l))) in
           (rw n, rw n f)
         where
           go : (y : Bool) → cond (not y) Damaged Nothing ≡ Nothing → y ≡ true
@@ -97,70 +97,70 @@ module _ (v : View) (t q : ℕ) (l b : List ℕ) where
 -- ---- the full
 
 abbrev AllSaid : View → ℕ → List ℕ → List ℕ → ℕ → List ℕ → Type 0
-AllSaid v t l b r c = (r ≡ number_of (fullRefusal v t l (length b))) × (c ≡ fullWritten v t l b)
+AllSaid v t l b r c = (r ≡ number_of (full_refusal v t l (length b))) × (c ≡ full_written v t l b)
 
 module _ (v : View) (t : ℕ) (l b : List ℕ) where
-  all-refused : (x : Refusal) (a : ℕ) → fullRefusal v t l (length b) ≡ x → a ≡ number_of x → accepted x ≡ false → AllSaid v t l b a b
-  unfolding fullWritten
+  all-refused : (x : Refusal) (a : ℕ) → full_refusal v t l (length b) ≡ x → a ≡ number_of x → accepted x ≡ false → AllSaid v t l b a b
+  unfolding full_written
   all-refused x a d e n = (rw d e, rw (d, n))
 
-  module _ (r : Refusal) (a : ℕ) (is : r ≡ headRefusal v (length l) (length b) (8 + entrySize * v.attributes) true t) (tells : a ≡ number_of r) where
+  module _ (r : Refusal) (a : ℕ) (is : r ≡ head_refusal v (length l) (length b) (8 + entry_size * v.attributes) true t) (tells : a ≡ number_of r) where
     pub all_head : (a ≡ 0 → ⊥) → AllSaid v t l b a b
-    unfolding fullRefusal headRefusal head
+    unfolding full_refusal head_refusal head
     all_head n =
-        let f = some-refused r a tells n in
+        let f = some_refused r a tells n in
         all-refused r a
-        (head-decides (viewSound v) (not (longFor v (length l) 0) || ltb (length b) (8 + entrySize * v.attributes)) true (asked v t) _ (ap accepted (sym is) ∙ f) ∙ sym is) tells f
+        (head-decides (view_sound v) (not (long_for v (length l) 0) || ltb (length b) (8 + entry_size * v.attributes)) true (asked v t) _ (ap accepted (sym is) ∙ f) ∙ sym is) tells f
 
-    module _ (z : a ≡ 0) (s : Full) (e : List ℕ) (walks : s ≡ walkedFull v t l []) (writes : e ≡ walkedWritten v t l [] 8 b) (x : Refusal) (k : ℕ) (has : x ≡ s.refusal) (says : k ≡ number_of x) where
-      same_rest : fullRefusal v t l (length b) ≡ walkedRefusal v t l []
-      unfolding fullRefusal walkedRefusal
-      same_rest = let d = nothing-admitted v l (length b) (8 + entrySize * v.attributes) true t (sym is ∙ zero-nothing r a tells z) in rw (d.sound, d.long, d.asks)
+    module _ (z : a ≡ 0) (s : Full) (e : List ℕ) (walks : s ≡ walked_full v t l []) (writes : e ≡ walked_written v t l [] 8 b) (x : Refusal) (k : ℕ) (has : x ≡ s.refusal) (says : k ≡ number_of x) where
+      same_rest : full_refusal v t l (length b) ≡ walked_refusal v t l []
+      unfolding full_refusal walked_refusal
+      same_rest = let d = nothing_admitted v l (length b) (8 + entry_size * v.attributes) true t (sym is ∙ zero_nothing r a tells z) in rw (d.sound, d.long, d.asks)
 
-      same-all : fullRefusal v t l (length b) ≡ x
-      unfolding walkedFull
+      same-all : full_refusal v t l (length b) ≡ x
+      unfolding walked_full
       same-all = same_rest ∙ sym (has ∙ ap (λ (y : Full). y.refusal) walks)
 
       pub all-walked : (k ≡ 0 → ⊥) → AllSaid v t l b k e
-      unfolding walkedWritten
+      unfolding walked_written
       all-walked n =
-          let f = some-refused x k says n in
-          let g : e ≡ b = writes ∙ ap (λ (y : Bool). cond y (sets b 8 (fullEntries v t l [] 0 v.attributes)) b) (ap accepted (sym same_rest ∙ same-all) ∙ f) in
+          let f = some_refused x k says n in
+          let g : e ≡ b = writes ∙ ap (λ (y : Bool). cond y (sets b 8 (full_entries v t l [] 0 v.attributes)) b) (ap accepted (sym same_rest ∙ same-all) ∙ f) in
           subst (λ (m : List ℕ). AllSaid v t l b k m) (sym g) (all-refused x k same-all says f)
 
       pub all_told : (d : List ℕ) → k ≡ 0 → d ≡ sets e 0 (le 8 s.nodes) → AllSaid v t l b 0 d
-      unfolding fullWritten fullBytes walkedFull walkedWritten number_of
+      unfolding full_written full_bytes walked_full walked_written number_of
       all_told d p g =
-          let n : fullRefusal v t l (length b) ≡ Nothing = same-all ∙ zero-nothing x k says p in
-          let m : walkedRefusal v t l [] ≡ Nothing = sym same_rest ∙ n in
-          let E : List ℕ = fullEntries v t l [] 0 v.attributes in
+          let n : full_refusal v t l (length b) ≡ Nothing = same-all ∙ zero_nothing x k says p in
+          let m : walked_refusal v t l [] ≡ Nothing = sym same_rest ∙ n in
+          let E : List ℕ = full_entries v t l [] 0 v.attributes in
           let N : List ℕ = le 8 (walk_of l v t).entered in
           let h : s.nodes ≡ (walk_of l v t).entered = ap (λ (y : Full). y.nodes) walks ∙ ap (λ (y : Refusal). cond (accepted y) (walk_of l v t).entered 0) m in
           let w : e ≡ sets b 8 E = writes ∙ ap (λ (y : Refusal). cond (accepted y) (sets b 8 E) b) m in
           let f : d ≡ sets b 0 (N ++ E) =
           g ∙ ap (λ (y : ℕ). sets e 0 (le 8 y)) h ∙ ap (λ (y : List ℕ). sets y 0 N) w
-          ∙ sym (sets-comm b 0 N 8 E (omega (arith, length-le 8 (walk_of l v t).entered)))
+          ∙ sym (sets_comm b 0 N 8 E (omega (arith, length_le 8 (walk_of l v t).entered)))
           ∙ sym (after-count b (walk_of l v t).entered E) in
           (rw n, rw n f)
 
-pub written-length : (v : View) (t : ℕ) (l b e : List ℕ) → e ≡ walkedWritten v t l [] 8 b → length e ≡ length b
-unfolding walkedWritten
-written-length v t l b e is = ap length is ∙ go (accepted (walkedRefusal v t l []))
+pub written_length : (v : View) (t : ℕ) (l b e : List ℕ) → e ≡ walked_written v t l [] 8 b → length e ≡ length b
+unfolding walked_written
+written_length v t l b e is = ap length is ∙ go (accepted (walked_refusal v t l []))
   where
-    go : (y : Bool) → length (cond y (sets b 8 (fullEntries v t l [] 0 v.attributes)) b) ≡ length b
-    go true = length-sets b 8 (fullEntries v t l [] 0 v.attributes)
+    go : (y : Bool) → length (cond y (sets b 8 (full_entries v t l [] 0 v.attributes)) b) ≡ length b
+    go true = length-sets b 8 (full_entries v t l [] 0 v.attributes)
     go false = refl
 
 -- ---- the view is that of the numbers
 
-pub one-of-view : (v w : View) (t q : ℕ) (l b : List ℕ) (r : ℕ) (c : List ℕ) → v ≡ w → r ≡ number_of (singleRefusal v t q l (length b)) → c ≡ singleWritten v t q l b
-    → (r ≡ number_of (singleRefusal w t q l (length b))) × (c ≡ singleWritten w t q l b)
-one-of-view v w t q l b r c e f g = (f ∙ ap (λ (x : View). number_of (singleRefusal x t q l (length b))) e, g ∙ ap (λ (x : View). singleWritten x t q l b) e)
+pub one-of-view : (v w : View) (t q : ℕ) (l b : List ℕ) (r : ℕ) (c : List ℕ) → v ≡ w → r ≡ number_of (single_refusal v t q l (length b)) → c ≡ single_written v t q l b
+    → (r ≡ number_of (single_refusal w t q l (length b))) × (c ≡ single_written w t q l b)
+one-of-view v w t q l b r c e f g = (f ∙ ap (λ (x : View). number_of (single_refusal x t q l (length b))) e, g ∙ ap (λ (x : View). single_written x t q l b) e)
 
-pub all-of-view : (v w : View) (t : ℕ) (l b : List ℕ) (r : ℕ) (c : List ℕ) → v ≡ w → r ≡ number_of (fullRefusal v t l (length b)) → c ≡ fullWritten v t l b
-    → (r ≡ number_of (fullRefusal w t l (length b))) × (c ≡ fullWritten w t l b)
-all-of-view v w t l b r c e f g = (f ∙ ap (λ (x : View). number_of (fullRefusal x t l (length b))) e, g ∙ ap (λ (x : View). fullWritten x t l b) e)
+pub all-of-view : (v w : View) (t : ℕ) (l b : List ℕ) (r : ℕ) (c : List ℕ) → v ≡ w → r ≡ number_of (full_refusal v t l (length b)) → c ≡ full_written v t l b
+    → (r ≡ number_of (full_refusal w t l (length b))) × (c ≡ full_written w t l b)
+all-of-view v w t l b r c e f g = (f ∙ ap (λ (x : View). number_of (full_refusal x t l (length b))) e, g ∙ ap (λ (x : View). full_written x t l b) e)
 
-pub view-done : (v : View) (start latest attributes k c n used root level : ℕ) → v ≡ finishedView start latest attributes k c n used root level → v.finished ≡ true
-unfolding finishedView
-view-done v start latest attributes k c n used root level e = ap (λ (x : View). x.finished) e
+pub view_done : (v : View) (start latest attributes k c n used root level : ℕ) → v ≡ finished_view start latest attributes k c n used root level → v.finished ≡ true
+unfolding finished_view
+view_done v start latest attributes k c n used root level e = ap (λ (x : View). x.finished) e

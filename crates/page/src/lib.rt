@@ -1,7 +1,7 @@
 // The questions on a finished history for the page server, on plain numbers and byte slices.
 ghost use Rattle.std.specs.Prelude.{◌≡◌, true, length};
 ghost use Rattle.record.specs.Refusals.{number_of};
-ghost use Rattle.page.specs.Page.{finishedView, headRefusal, singleRefusal, singleWritten, fullRefusal, fullWritten};
+ghost use Rattle.page.specs.Page.{finished_view, head_refusal, single_refusal, single_written, full_refusal, full_written};
 
 use layout::{Quark, Seq, Shape};
 use record::Refusal;
@@ -19,7 +19,7 @@ fn finished_view(
     root: u32,
     level: u32,
 ) -> View
-    ensures { result ≡ finishedView start latest attributes k c n used root level }
+    ensures { result ≡ finished_view start latest attributes k c n used root level }
 {
     let shape = Shape { k: k, c: c, n: n };
     View {
@@ -36,7 +36,7 @@ fn finished_view(
 
 // The refusals before the walk.
 fn head(v: View, nodes: usize, answer: usize, wants: usize, known: bool, t: u64) -> Refusal
-    ensures { result ≡ headRefusal v nodes answer wants known t }
+    ensures { result ≡ head_refusal v nodes answer wants known t }
 {
     if !walk::known::view_sound(v) {
         return Refusal::Damaged;
@@ -55,7 +55,7 @@ fn head(v: View, nodes: usize, answer: usize, wants: usize, known: bool, t: u64)
 }
 
 fn single_on(v: View, t: u64, quark: u32, nodes: &[u8], answer: &mut [u8]) -> u32
-    ensures { (result ≡ number_of (singleRefusal v t quark nodes.now (length answer.old))) × (answer.new ≡ singleWritten v t quark nodes.now answer.old) }
+    ensures { (result ≡ number_of (single_refusal v t quark nodes.now (length answer.old))) × (answer.new ≡ single_written v t quark nodes.now answer.old) }
 {
     let r = head(
         v,
@@ -82,7 +82,7 @@ fn single_on(v: View, t: u64, quark: u32, nodes: &[u8], answer: &mut [u8]) -> u3
 
 fn full_on(v: View, t: u64, nodes: &[u8], answer: &mut [u8]) -> u32
     requires { v.finished ≡ true }
-    ensures { (result ≡ number_of (fullRefusal v t nodes.now (length answer.old))) × (answer.new ≡ fullWritten v t nodes.now answer.old) }
+    ensures { (result ≡ number_of (full_refusal v t nodes.now (length answer.old))) × (answer.new ≡ full_written v t nodes.now answer.old) }
 {
     let r = head(
         v,
@@ -123,7 +123,7 @@ pub extern "C" fn history_single(
     nodes: &[u8],
     answer: &mut [u8],
 ) -> u32
-    ensures { (result ≡ number_of (singleRefusal (finishedView start latest attributes k c n used root level) t quark nodes.now (length answer.old))) × (answer.new ≡ singleWritten (finishedView start latest attributes k c n used root level) t quark nodes.now answer.old) }
+    ensures { (result ≡ number_of (single_refusal (finished_view start latest attributes k c n used root level) t quark nodes.now (length answer.old))) × (answer.new ≡ single_written (finished_view start latest attributes k c n used root level) t quark nodes.now answer.old) }
 {
     let v = finished_view(start, latest, attributes, k, c, n, used, root, level);
     single_on(v, t, quark, nodes, answer)
@@ -144,7 +144,7 @@ pub extern "C" fn history_full(
     nodes: &[u8],
     answer: &mut [u8],
 ) -> u32
-    ensures { (result ≡ number_of (fullRefusal (finishedView start latest attributes k c n used root level) t nodes.now (length answer.old))) × (answer.new ≡ fullWritten (finishedView start latest attributes k c n used root level) t nodes.now answer.old) }
+    ensures { (result ≡ number_of (full_refusal (finished_view start latest attributes k c n used root level) t nodes.now (length answer.old))) × (answer.new ≡ full_written (finished_view start latest attributes k c n used root level) t nodes.now answer.old) }
 {
     let v = finished_view(start, latest, attributes, k, c, n, used, root, level);
     full_on(v, t, nodes, answer)

@@ -12,46 +12,46 @@ use Rattle.walk.specs.declared.Walk.{Walk}
 use Rattle.walk.specs.declared.Rule.{Rule}
 use Rattle.walk.specs.View.{Roomy}
 use Rattle.walk.specs.Rules.{kept}
-use Rattle.walk.specs.Walk.{rootOf, allSound, descend}
-use Rattle.questions.specs.Found.{look, lookAt, found, foundOf}
-use Rattle.walk.proofs.Turns.{Walking, Reading, walking-root, walking-onto, walking-next, walking-last}
-use Rattle.questions.proofs.Finds.{look-node, found-stop, found_turn}
+use Rattle.walk.specs.Walk.{root_of, all_sound, descend}
+use Rattle.questions.specs.Found.{look, look_at, found, found_of}
+use Rattle.walk.proofs.Turns.{Walking, Reading, walking_root, walking_onto, walking_next, walking_last}
+use Rattle.questions.proofs.Finds.{look_node, found_stop, found_turn}
 
 -- where the walk stands, after s was found for q so far
 pub record Finding (l : List ℕ) (v : View) (q t : ℕ) (w : Walk) (level s : ℕ) : Type 0 where
   pub walking : Walking l v t w level
-  pub finds : foundOf l v q t ≡ found l v q t level w s
+  pub finds : found_of l v q t ≡ found l v q t level w s
 
 module _ (l : List ℕ) (v : View) (q t : ℕ) where
-  pub finding-root : (w : Walk) → Roomy v l → w ≡ rootOf v → Finding l v q t w (v.level + 1) 0
-  unfolding foundOf
-  finding-root w roomy e = record { walking = walking-root l v t w roomy e; finds = ap (λ (y : Walk). found l v q t (v.level + 1) y 0) (sym e) }
+  pub finding_root : (w : Walk) → Roomy v l → w ≡ root_of v → Finding l v q t w (v.level + 1) 0
+  unfolding found_of
+  finding_root w roomy e = record { walking = walking_root l v t w roomy e; finds = ap (λ (y : Walk). found l v q t (v.level + 1) y 0) (sym e) }
 
-  pub finding-ends : (w : Walk) (level s : ℕ) → Finding l v q t w level s → level ≤ 0 → s ≡ foundOf l v q t
+  pub finding_ends : (w : Walk) (level s : ℕ) → Finding l v q t w level s → level ≤ 0 → s ≡ found_of l v q t
   unfolding found
-  finding-ends w level s inv none = let e : level ≡ 0 = omega arith in sym (inv.finds ∙ ap (λ (k : ℕ). found l v q t k w s) e)
+  finding_ends w level s inv none = let e : level ≡ 0 = omega arith in sym (inv.finds ∙ ap (λ (k : ℕ). found l v q t k w s) e)
 
   -- a turn: the node's entries are sound, and no rule is broken on the way down to g
   module _ (w : Walk) (level s : ℕ) (inv : Finding l v q t w level s) (p : ℕ) (h : Header) (rule : Rule) (x : Bool) (r : Reading l v t w level p h rule x) (n : not x ≡ false)
-      (first : ℕ) (b : Bool) (from : first ≡ entry_at v.shape 0) (sound : b ≡ allSound l v.attributes h (p + first) h.intervals true) (m : not b ≡ false)
+      (first : ℕ) (b : Bool) (from : first ≡ entry_at v.shape 0) (sound : b ≡ all_sound l v.attributes h (p + first) h.intervals true) (m : not b ≡ false)
       (s' : ℕ) (finds : b ≡ true → s' ≡ look l q t (p + first) h.intervals s) (g : Walk) (down : g ≡ descend l v t h p w) (k : kept g.rule ≡ true) where
-    found_here : lookAt l v q t (level - 1) w s ≡ s'
+    found_here : look_at l v q t (level - 1) w s ≡ s'
     found_here =
-        look-node l v q t (level - 1) w s p h first r.at r.reads (ap kept (sym r.is) ∙ sym r.good ∙ not-false x n) from ∙ sym (finds (not-false b m))
+        look_node l v q t (level - 1) w s p h first r.at r.reads (ap kept (sym r.is) ∙ sym r.good ∙ not-false x n) from ∙ sym (finds (not-false b m))
 
     onward : (level' : ℕ) → Walking l v t g level' → found l v q t (level - 1) g s' ≡ found l v q t level' g s' → Finding l v q t g level' s'
     onward level' walking e = record {
       walking = walking;
       finds =
           inv.finds ∙ found_turn l v q t level w s r.left (r.walking.going r.left)
-          ∙ ap (λ (y : Walk). found l v q t (level - 1) y (lookAt l v q t (level - 1) w s)) (walking-onto l v t w level p h rule x r n first b from sound m g down k)
+          ∙ ap (λ (y : Walk). found l v q t (level - 1) y (look_at l v q t (level - 1) w s)) (walking_onto l v t w level p h rule x r n first b from sound m g down k)
           ∙ ap (found l v q t (level - 1) g) found_here ∙ e;
     }
 
-    pub finding-next : g.go ≡ true → Finding l v q t g (level - 1) s'
-    finding-next e = onward (level - 1) (walking-next l v t w level p h rule x r n first b from sound m g down k e) refl
+    pub finding_next : g.go ≡ true → Finding l v q t g (level - 1) s'
+    finding_next e = onward (level - 1) (walking_next l v t w level p h rule x r n first b from sound m g down k e) refl
 
     -- it goes no further: no level is left to it
-    pub finding-last : g.go ≡ false → Finding l v q t g 0 s'
+    pub finding_last : g.go ≡ false → Finding l v q t g 0 s'
     unfolding found
-    finding-last e = onward 0 (walking-last l v t w level p h rule x r n first b from sound m g down k e) (sym (found-stop l v q t (level - 1) g s' e))
+    finding_last e = onward 0 (walking_last l v t w level p h rule x r n first b from sound m g down k e) (sym (found_stop l v q t (level - 1) g s' e))

@@ -1,12 +1,12 @@
 // The single question: one attribute's state at t.
 ghost use Rattle.std.specs.Prelude.{◌≡◌, ◌+◌, ◌*◌, ◌/◌, ◌≤◌, ◌<◌, true, false, length};
-ghost use Rattle.layout.specs.Layout.{entrySize};
-ghost use Rattle.record.specs.Record.{recordOf};
+ghost use Rattle.layout.specs.Layout.{entry_size};
+ghost use Rattle.record.specs.Record.{record_of};
 ghost use Rattle.record.specs.Sound.{sound};
 ghost use Rattle.walk.specs.View.{view_of, Roomy};
-ghost use Rattle.walk.specs.Walk.{allSound};
+ghost use Rattle.walk.specs.Walk.{all_sound};
 ghost use Rattle.questions.specs.Found.{more, look, shown};
-ghost use Rattle.questions.specs.Single.{refusedSingle, walkedSingle, viewSingle, singleOf};
+ghost use Rattle.questions.specs.Single.{refused_single, walked_single, view_single, single_of};
 
 use crate::Single;
 use layout::{Entry, Header, Quark, Shape};
@@ -43,8 +43,8 @@ fn look(
     n: u32,
     found: u64,
 ) -> Seen
-    requires { (at + entrySize * n ≤ length nodes.now) × (at + entrySize * n ≤ 4294967296) × (h.start ≤ h.end) }
-    ensures { (result.sound ≡ allSound nodes.now attributes h at n true) × (result.sound ≡ true → result.found ≡ look nodes.now quark.0 t at n found) }
+    requires { (at + entry_size * n ≤ length nodes.now) × (at + entry_size * n ≤ 4294967296) × (h.start ≤ h.end) }
+    ensures { (result.sound ≡ all_sound nodes.now attributes h at n true) × (result.sound ≡ true → result.found ≡ look nodes.now quark.0 t at n found) }
 {
     let mut p = at;
     let end = at + layout::ENTRY * (n as usize);
@@ -86,7 +86,7 @@ fn one(s: u64) -> bool
 
 // "A refusal returns its number with all other result numbers 0"
 fn refused(r: Refusal) -> Single
-    ensures { result ≡ refusedSingle r }
+    ensures { result ≡ refused_single r }
 {
     let e = Entry {
         quark: Quark(0),
@@ -105,7 +105,7 @@ fn refused(r: Refusal) -> Single
 // The walk of a single question, and R7. Where a node's way goes on is found before its entries are looked at: the next node's header is on its way from memory meanwhile.
 pub fn walked(v: View, t: u64, quark: Quark, nodes: &[u8]) -> Single
     requires { Roomy v nodes.now }
-    ensures { result ≡ walkedSingle v t quark.0 nodes.now }
+    ensures { result ≡ walked_single v t quark.0 nodes.now }
 {
     let mut w = steps::root(v);
     let mut level = v.level + 1;
@@ -159,8 +159,8 @@ pub fn walked(v: View, t: u64, quark: Quark, nodes: &[u8]) -> Single
 
 // The same of a history's record. What the walk knows is made from it here: handed over, it would be copied on the way, in other pieces than it was written in, and a processor waits for such copies.
 fn walked_from(shape: Shape, h: &[u64; 87], t: u64, quark: Quark, nodes: &[u8]) -> Single
-    requires { (sound (recordOf shape h.now) ≡ true) × Roomy (view_of (recordOf shape h.now)) nodes.now }
-    ensures { result ≡ walkedSingle (view_of (recordOf shape h.now)) t quark.0 nodes.now }
+    requires { (sound (record_of shape h.now) ≡ true) × Roomy (view_of (record_of shape h.now)) nodes.now }
+    ensures { result ≡ walked_single (view_of (record_of shape h.now)) t quark.0 nodes.now }
 {
     let v = known::view_of(shape, h);
     walked(v, t, quark, nodes)
@@ -168,8 +168,8 @@ fn walked_from(shape: Shape, h: &[u64; 87], t: u64, quark: Quark, nodes: &[u8]) 
 
 // The question, once the record and the buffers are admitted, the quark is known and t is asked rightly.
 fn admitted(shape: Shape, h: &[u64; 87], t: u64, quark: Quark, nodes: &[u8], table: &[u8]) -> Single
-    requires { (sound (recordOf shape h.now) ≡ true) × Roomy (view_of (recordOf shape h.now)) nodes.now × (quark.0 < (view_of (recordOf shape h.now)).attributes) × ((view_of (recordOf shape h.now)).finished ≡ false → (view_of (recordOf shape h.now)).attributes ≤ length table.now / entrySize) }
-    ensures { result ≡ viewSingle (view_of (recordOf shape h.now)) t quark.0 nodes.now table.now }
+    requires { (sound (record_of shape h.now) ≡ true) × Roomy (view_of (record_of shape h.now)) nodes.now × (quark.0 < (view_of (record_of shape h.now)).attributes) × ((view_of (record_of shape h.now)).finished ≡ false → (view_of (record_of shape h.now)).attributes ≤ length table.now / entry_size) }
+    ensures { result ≡ view_single (view_of (record_of shape h.now)) t quark.0 nodes.now table.now }
 {
     if record::sound::finished(h) {
         return walked_from(shape, h, t, quark, nodes);
@@ -197,7 +197,7 @@ pub fn single(
     nodes: &[u8],
     table: &[u8],
 ) -> Single
-    ensures { result ≡ singleOf (recordOf shape h.now) t quark nodes.now table.now }
+    ensures { result ≡ single_of (record_of shape h.now) t quark nodes.now table.now }
 {
     if !record::sound::sound(shape, h) {
         return refused(Refusal::Damaged);

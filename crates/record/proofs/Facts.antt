@@ -8,11 +8,11 @@ use native.Mathlib.Omega.{arith}
 use lib.Dec.{leb, eqb}
 use borrow.Author.Tests.{leb-true, ltb-true, eqb-true, eqb-false, ne_eqb, not-true, not-false}
 use Rattle.layout.specs.declared.Shape.{Shape}
-use Rattle.layout.specs.Layout.{nodeSize, entrySize}
+use Rattle.layout.specs.Layout.{node_size, entry_size}
 use Rattle.record.specs.Record.{History}
 use Rattle.record.specs.declared.Refusal.TheVariants.{Nothing, Damaged, Short}
-use Rattle.record.specs.Levels.{placeAt, start_at, lastEndAt}
-use Rattle.record.specs.Sound.{shapeAllowed, numbersSound, all, levelSound, apart, levelsSound, startsFall, lastEndSound, branchSound, sound, longEnough, admitted}
+use Rattle.record.specs.Levels.{place_at, start_at, last_end_at}
+use Rattle.record.specs.Sound.{shape_allowed, numbers_sound, all, level_sound, apart, levels_sound, starts_fall, last_end_sound, branch_sound, sound, long_enough, admitted}
 use Rattle.record.specs.Firm.{Shaped, Numbered, OpenLevel, Unfinished, Firm}
 
 -- ---- tests taken apart
@@ -33,24 +33,24 @@ above : (l : ℕ) → 0 < l → eqb l 0 ≡ false
 above l p = ne_eqb l 0 (λ q. omega arith)
 
 -- a test of a run of numbers, at one of them
-pub all-at : (p : ℕ → Bool) (i n j : ℕ) → all p i n ≡ true → i ≤ j → j < i + n → p j ≡ true
+pub all_at : (p : ℕ → Bool) (i n j : ℕ) → all p i n ≡ true → i ≤ j → j < i + n → p j ≡ true
 unfolding all
-all-at p i zero j e le lt = absurd (omega arith)
-all-at p i (suc n) j e le lt =
+all_at p i zero j e le lt = absurd (omega arith)
+all_at p i (suc n) j e le lt =
     let parts = first (p i) (all p (i + 1) n) e in
-    ⊎_elim (λ (q : i ≡ j). rw q at parts.0) (λ (q : i < j). all-at p (i + 1) n j parts.1 (omega arith) (omega arith)) (eq-or-lt_of_le le)
+    ⊎_elim (λ (q : i ≡ j). rw q at parts.0) (λ (q : i < j). all_at p (i + 1) n j parts.1 (omega arith) (omega arith)) (eq-or-lt_of_le le)
 
 -- ---- numbers
 
-pub sound-shaped : (s : Shape) → shapeAllowed s ≡ true → Shaped s
-unfolding shapeAllowed nodeSize
-sound-shaped s e =
+pub sound_shaped : (s : Shape) → shape_allowed s ≡ true → Shaped s
+unfolding shape_allowed node_size
+sound_shaped s e =
     let a = both _ _ e in
     let b = both _ _ a.0 in
     let d = both _ _ b.0 in
     let f = both _ _ d.0 in
     let g = both _ _ f.0 in
-    let size : nodeSize s ≤ 65536 = leb-true _ _ d.1 in
+    let size : node_size s ≤ 65536 = leb-true _ _ d.1 in
     record {
       some = leb-true _ _ g.0;
       two = leb-true _ _ g.1;
@@ -60,9 +60,9 @@ sound-shaped s e =
       nodes = leb-true _ _ a.1;
     }
 
-pub sound-numbered : (h : History) → numbersSound h ≡ true → Numbered h
-unfolding numbersSound
-sound-numbered h e =
+pub sound_numbered : (h : History) → numbers_sound h ≡ true → Numbered h
+unfolding numbers_sound
+sound_numbered h e =
     let a = both _ _ e in
     let b = both _ _ a.0 in
     let d = both _ _ b.0 in
@@ -84,9 +84,9 @@ sound-numbered h e =
 -- ---- the open branch
 
 module _ (h : History) where
-  level-facts : (l : ℕ) → levelSound h.branch h.shape h.used l ≡ true → apart h.branch l (h.top - l) ≡ true → OpenLevel h l
-  unfolding levelSound apart
-  level-facts l e f =
+  level_facts : (l : ℕ) → level_sound h.branch h.shape h.used l ≡ true → apart h.branch l (h.top - l) ≡ true → OpenLevel h l
+  unfolding level_sound apart
+  level_facts l e f =
       let a = both _ _ e in
       let b = both _ _ a.0 in
       let d = both _ _ b.0 in
@@ -95,26 +95,26 @@ module _ (h : History) where
         children = leb-true _ _ d.1;
         placed = ltb-true _ _ b.1;
         parent = λ p. leb-true _ _ (either _ _ a.1 (above _ p));
-        apart = λ m lt le. eqb-false _ _ (not-true _ (all-at _ (l + 1) (h.top - l) m f (omega arith) (omega arith)));
+        apart = λ m lt le. eqb-false _ _ (not-true _ (all_at _ (l + 1) (h.top - l) m f (omega arith) (omega arith)));
       }
 
-  levels-facts : (l : ℕ) → levelsSound h.branch h.shape h.used h.low h.top ≡ true → h.low ≤ l → l ≤ h.top → OpenLevel h l
-  unfolding levelsSound
-  levels-facts l e x y =
-      let g = first (levelSound h.branch h.shape h.used l) (apart h.branch l (h.top - l)) (all-at _ h.low (h.top + 1 - h.low) l e x (omega arith)) in
-      level-facts l g.0 g.1
+  levels_facts : (l : ℕ) → levels_sound h.branch h.shape h.used h.low h.top ≡ true → h.low ≤ l → l ≤ h.top → OpenLevel h l
+  unfolding levels_sound
+  levels_facts l e x y =
+      let g = first (level_sound h.branch h.shape h.used l) (apart h.branch l (h.top - l)) (all_at _ h.low (h.top + 1 - h.low) l e x (omega arith)) in
+      level_facts l g.0 g.1
 
-  falls-facts : (l : ℕ) → startsFall h.branch h.low h.top ≡ true → h.low ≤ l → l < h.top → start_at h.branch (l + 1) ≤ start_at h.branch l
-  unfolding startsFall
-  falls-facts l e x y = leb-true _ _ (all-at _ h.low (h.top - h.low) l e x (omega arith))
+  falls_facts : (l : ℕ) → starts_fall h.branch h.low h.top ≡ true → h.low ≤ l → l < h.top → start_at h.branch (l + 1) ≤ start_at h.branch l
+  unfolding starts_fall
+  falls_facts l e x y = leb-true _ _ (all_at _ h.low (h.top - h.low) l e x (omega arith))
 
-  last-facts : lastEndSound h.branch h.low h.start h.latest ≡ true → 0 < h.low → (h.start ≤ lastEndAt h.branch h.low) × (lastEndAt h.branch h.low ≤ h.latest)
-  unfolding lastEndSound
-  last-facts e p = let g = both _ _ (either _ _ e (above _ p)) in (leb-true _ _ g.0, leb-true _ _ g.1)
+  last_facts : last_end_sound h.branch h.low h.start h.latest ≡ true → 0 < h.low → (h.start ≤ last_end_at h.branch h.low) × (last_end_at h.branch h.low ≤ h.latest)
+  unfolding last_end_sound
+  last_facts e p = let g = both _ _ (either _ _ e (above _ p)) in (leb-true _ _ g.0, leb-true _ _ g.1)
 
-  pub sound-unfinished : branchSound h ≡ true → h.finished ≡ false → Unfinished h
-  unfolding branchSound
-  sound-unfinished e going =
+  pub sound_unfinished : branch_sound h ≡ true → h.finished ≡ false → Unfinished h
+  unfolding branch_sound
+  sound_unfinished e going =
       let a = first _ _ (simp going at e) in
       let b = first _ _ a.1 in
       let d = first _ _ b.1 in
@@ -122,49 +122,49 @@ module _ (h : History) where
       record {
         ordered = leb-true _ _ a.0;
         root = eqb-true _ _ b.0;
-        last = last-facts d.0;
-        falls = λ l. falls-facts l f.0;
-        levels = λ l. levels-facts l f.1;
+        last = last_facts d.0;
+        falls = λ l. falls_facts l f.0;
+        levels = λ l. levels_facts l f.1;
       }
 
   -- once finished: no level is open, and the root's place is used
-  pub sound-finished : branchSound h ≡ true → h.finished ≡ true → (h.low ≡ h.top + 1) × (placeAt h.branch h.top < h.used)
-  unfolding branchSound
-  sound-finished e done = let a = both _ _ (simp done at e) in (eqb-true _ _ a.0, ltb-true _ _ a.1)
+  pub sound_finished : branch_sound h ≡ true → h.finished ≡ true → (h.low ≡ h.top + 1) × (place_at h.branch h.top < h.used)
+  unfolding branch_sound
+  sound_finished e done = let a = both _ _ (simp done at e) in (eqb-true _ _ a.0, ltb-true _ _ a.1)
 
 -- ---- the whole
 
 module _ (h : History) (is : sound h ≡ true) where
-  sound-parts : (shapeAllowed h.shape ≡ true) × (numbersSound h ≡ true) × (branchSound h ≡ true)
+  sound_parts : (shape_allowed h.shape ≡ true) × (numbers_sound h ≡ true) × (branch_sound h ≡ true)
   unfolding sound
-  sound-parts = let a = first _ _ is in let b = first _ _ a.1 in (a.0, b.0, b.1)
+  sound_parts = let a = first _ _ is in let b = first _ _ a.1 in (a.0, b.0, b.1)
 
-  pub sound-shape : Shaped h.shape
-  sound-shape = sound-shaped h.shape sound-parts.0
+  pub sound_shape : Shaped h.shape
+  sound_shape = sound_shaped h.shape sound_parts.0
 
-  pub sound-numbers : Numbered h
-  sound-numbers = sound-numbered h sound-parts.1
+  pub sound_numbers : Numbered h
+  sound_numbers = sound_numbered h sound_parts.1
 
-  pub sound-open : h.finished ≡ false → Unfinished h
-  sound-open = sound-unfinished h sound-parts.2
+  pub sound_open : h.finished ≡ false → Unfinished h
+  sound_open = sound_unfinished h sound_parts.2
 
-  pub sound-done : h.finished ≡ true → (h.low ≡ h.top + 1) × (placeAt h.branch h.top < h.used)
-  sound-done = sound-finished h sound-parts.2
+  pub sound_done : h.finished ≡ true → (h.low ≡ h.top + 1) × (place_at h.branch h.top < h.used)
+  sound_done = sound_finished h sound_parts.2
 
   -- finished or not, the root's place is used
-  pub sound-root : placeAt h.branch h.top < h.used
-  sound-root = go h.finished refl
+  pub sound_root : place_at h.branch h.top < h.used
+  sound_root = go h.finished refl
     where
-      go : (f : Bool) → h.finished ≡ f → placeAt h.branch h.top < h.used
-      go true e = (sound-done e).1
-      go false e = let u = sound-open e in (u.levels h.top u.ordered (omega arith)).placed
+      go : (f : Bool) → h.finished ≡ f → place_at h.branch h.top < h.used
+      go true e = (sound_done e).1
+      go false e = let u = sound_open e in (u.levels h.top u.ordered (omega arith)).placed
 
-  pub sound-firm : h.finished ≡ false → Firm h
-  sound-firm going =
-      let u = sound-open going in
-      let n = sound-numbers in
+  pub sound_firm : h.finished ≡ false → Firm h
+  sound_firm going =
+      let u = sound_open going in
+      let n = sound_numbers in
       record {
-        shaped = sound-shape;
+        shaped = sound_shape;
         used = n.room;
         ordered = u.ordered;
         top = n.top;
@@ -177,30 +177,30 @@ module _ (h : History) (is : sound h ≡ true) where
 
 -- ---- what the calls of `sound` and `admit` need
 
-pub top_small : (h : History) (x : Bool) → x ≡ numbersSound h → not x ≡ false → h.top < 16
-top_small h x e n = let f = sound-numbered h (sym e ∙ not-false x n) in omega arith
+pub top_small : (h : History) (x : Bool) → x ≡ numbers_sound h → not x ≡ false → h.top < 16
+top_small h x e n = let f = sound_numbered h (sym e ∙ not-false x n) in omega arith
 
-pub sound-small : (h : History) (x : Bool) → x ≡ sound h → not x ≡ false → (h.shape.n ≤ 65536) × (nodeSize h.shape ≤ 65536)
-sound-small h x e n = let f = sound-shape h (sym e ∙ not-false x n) in (f.nodes, f.size)
+pub sound_small : (h : History) (x : Bool) → x ≡ sound h → not x ≡ false → (h.shape.n ≤ 65536) × (node_size h.shape ≤ 65536)
+sound_small h x e n = let f = sound_shape h (sym e ∙ not-false x n) in (f.nodes, f.size)
 
 -- ---- what admission says
 
-long-nodes : (h : History) (nodes table : ℕ) → longEnough h nodes table ≡ true → h.shape.n * nodeSize h.shape ≤ nodes
-unfolding longEnough
-long-nodes h nodes table e = leb-true _ _ (both _ _ e).0
+long_nodes : (h : History) (nodes table : ℕ) → long_enough h nodes table ≡ true → h.shape.n * node_size h.shape ≤ nodes
+unfolding long_enough
+long_nodes h nodes table e = leb-true _ _ (both _ _ e).0
 
-long-table : (h : History) (nodes table : ℕ) → longEnough h nodes table ≡ true → h.finished ≡ false → h.attributes ≤ table / entrySize
-unfolding longEnough
-long-table h nodes table e going =
-    let g = both (leb (h.shape.n * nodeSize h.shape) nodes) (h.finished || leb h.attributes (table / entrySize)) e in
+long_table : (h : History) (nodes table : ℕ) → long_enough h nodes table ≡ true → h.finished ≡ false → h.attributes ≤ table / entry_size
+unfolding long_enough
+long_table h nodes table e going =
+    let g = both (leb (h.shape.n * node_size h.shape) nodes) (h.finished || leb h.attributes (table / entry_size)) e in
     leb-true _ _ (either _ _ g.1 going)
 
 -- a call or question that is not refused 3 or 2 at its head: the record is sound, its nodes lie in the buffer, and its attributes in the table until finish
-pub admitted-facts : (h : History) (nodes table : ℕ) → admitted h nodes table ≡ Nothing → (sound h ≡ true) × (h.shape.n * nodeSize h.shape ≤ nodes) × (h.finished ≡ false → h.attributes ≤ table / entrySize)
+pub admitted_facts : (h : History) (nodes table : ℕ) → admitted h nodes table ≡ Nothing → (sound h ≡ true) × (h.shape.n * node_size h.shape ≤ nodes) × (h.finished ≡ false → h.attributes ≤ table / entry_size)
 unfolding admitted
-admitted-facts h nodes table = go (sound h) (longEnough h nodes table) refl refl
+admitted_facts h nodes table = go (sound h) (long_enough h nodes table) refl refl
   where
-    go : (x y : Bool) → sound h ≡ x → longEnough h nodes table ≡ y → cond (not x) Damaged (cond (not y) Short Nothing) ≡ Nothing → (sound h ≡ true) × (h.shape.n * nodeSize h.shape ≤ nodes) × (h.finished ≡ false → h.attributes ≤ table / entrySize)
-    go true true a b e = (a, long-nodes h nodes table b, long-table h nodes table b)
+    go : (x y : Bool) → sound h ≡ x → long_enough h nodes table ≡ y → cond (not x) Damaged (cond (not y) Short Nothing) ≡ Nothing → (sound h ≡ true) × (h.shape.n * node_size h.shape ≤ nodes) × (h.finished ≡ false → h.attributes ≤ table / entry_size)
+    go true true a b e = (a, long_nodes h nodes table b, long_table h nodes table b)
     go true false a b e = let z : ◌≡◌ {A = ℕ} 0 1 = cc in absurd (omega arith)
     go false y a b e = let z : ◌≡◌ {A = ℕ} 0 1 = cc in absurd (omega arith)

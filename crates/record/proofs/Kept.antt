@@ -11,22 +11,22 @@ use lib.Seq.{get_or-set_other}
 use borrow.Author.Tests.{eqb-true, eqb-false}
 use Rattle.layout.specs.declared.Seq.{Seq}
 use Rattle.record.specs.Record.{History}
-use Rattle.record.specs.Levels.{intervalsAt, childrenAt}
-use Rattle.record.specs.Moves.{levelNew, levelChild, levelStored, levelClosed, withBranch, withLargest, closed, raised, made, stored, stretched, atTime, withAttribute}
-use Rattle.record.specs.Sound.{lastTime}
+use Rattle.record.specs.Levels.{intervals_at, children_at}
+use Rattle.record.specs.Moves.{level_new, level_child, level_stored, level_closed, with_branch, with_largest, closed, raised, made, stored, stretched, at_time, with_attribute}
+use Rattle.record.specs.Sound.{last_time}
 use Rattle.record.specs.Firm.{Firm}
 
 -- ---- an entry that was set is at most what it was set to, in a list of any length
 
-set-most : (xs : List ℕ) (i v : ℕ) → get_or (set xs i v) i 0 ≤ v
-set-most [] i v = omega arith
-set-most (x ∷ xs) zero v = omega arith
-set-most (x ∷ xs) (suc i) v = set-most xs i v
+set_most : (xs : List ℕ) (i v : ℕ) → get_or (set xs i v) i 0 ≤ v
+set_most [] i v = omega arith
+set_most (x ∷ xs) zero v = omega arith
+set_most (x ∷ xs) (suc i) v = set_most xs i v
 
-place-most : (xs : List Seq) (i v : ℕ) → (get_or (set xs i (record { 0 = v })) i (record { 0 = 0 })).0 ≤ v
-place-most [] i v = omega arith
-place-most (x ∷ xs) zero v = omega arith
-place-most (x ∷ xs) (suc i) v = place-most xs i v
+place_most : (xs : List Seq) (i v : ℕ) → (get_or (set xs i (record { 0 = v })) i (record { 0 = 0 })).0 ≤ v
+place_most [] i v = omega arith
+place_most (x ∷ xs) zero v = omega arith
+place_most (x ∷ xs) (suc i) v = place_most xs i v
 
 -- what holds at l and at every other level holds at m
 either : (m l : ℕ) (P : ℕ → Type 0) → P l → ((m ≡ l → ⊥) → P m) → P m
@@ -40,14 +40,14 @@ either m l P same other = go (eqb m l) refl
 one_more : (xs : List ℕ) (i j k : ℕ) → get_or xs i 0 < k → get_or xs j 0 ≤ k → get_or (set xs i (get_or xs i 0 + 1)) j 0 ≤ k
 one_more xs i j k room g =
     either j i (λ m. get_or (set xs i (get_or xs i 0 + 1)) m 0 ≤ k)
-    (omega (arith, set-most xs i (get_or xs i 0 + 1)))
+    (omega (arith, set_most xs i (get_or xs i 0 + 1)))
     (λ ne. rw (get_or-set_other xs i j (get_or xs i 0 + 1) 0 ne) g)
 
 module _ (h : History) (f : Firm h) where
   -- the lowest level closes, under an open one
-  pub firm-closed : h.low < h.top → Firm (closed h)
-  unfolding closed withBranch levelClosed
-  firm-closed lt = record {
+  pub firm_closed : h.low < h.top → Firm (closed h)
+  unfolding closed with_branch level_closed
+  firm_closed lt = record {
     shaped = f.shaped;
     used = f.used;
     ordered = omega arith;
@@ -56,53 +56,53 @@ module _ (h : History) (f : Firm h) where
     intervals = λ l x y. f.intervals l (omega arith) y;
     children = λ l x y. f.children l (omega arith) y;
     largest = f.largest;
-    last = λ p. omega (arith, f.largest, set-most h.branch.last_ends (h.low + 1) h.largest_end);
+    last = λ p. omega (arith, f.largest, set_most h.branch.last_ends (h.low + 1) h.largest_end);
   }
 
   -- a new root above the old one
-  pub firm-raised : h.top < 15 → h.used < h.shape.n → Firm (raised h)
-  unfolding raised withBranch levelNew
-  firm-raised lt room = record {
+  pub firm_raised : h.top < 15 → h.used < h.shape.n → Firm (raised h)
+  unfolding raised with_branch level_new
+  firm_raised lt room = record {
     shaped = f.shaped;
     used = omega arith;
     ordered = omega arith;
     top = omega arith;
-    placed = λ l x y. let e : l ≡ h.top + 1 = omega arith in rw e (omega (arith, place-most h.branch.places (h.top + 1) h.used));
-    intervals = λ l x y. let e : l ≡ h.top + 1 = omega arith in rw e (omega (arith, set-most h.branch.intervals (h.top + 1) 0));
-    children = λ l x y. let e : l ≡ h.top + 1 = omega arith in rw e (omega (arith, f.shaped.two, set-most h.branch.children (h.top + 1) 1));
+    placed = λ l x y. let e : l ≡ h.top + 1 = omega arith in rw e (omega (arith, place_most h.branch.places (h.top + 1) h.used));
+    intervals = λ l x y. let e : l ≡ h.top + 1 = omega arith in rw e (omega (arith, set_most h.branch.intervals (h.top + 1) 0));
+    children = λ l x y. let e : l ≡ h.top + 1 = omega arith in rw e (omega (arith, f.shaped.two, set_most h.branch.children (h.top + 1) 1));
     largest = f.largest;
-    last = λ p. omega (arith, f.largest, set-most h.branch.last_ends (h.top + 1) h.largest_end);
+    last = λ p. omega (arith, f.largest, set_most h.branch.last_ends (h.top + 1) h.largest_end);
   }
 
   -- a new node under the lowest
-  pub firm-made : (a l : ℕ) → h.low ≡ l + 1 → childrenAt h.branch (l + 1) < h.shape.c → h.used < h.shape.n → Firm (made h a l)
-  unfolding made withBranch levelNew levelChild
-  firm-made a l is fewer room = record {
+  pub firm_made : (a l : ℕ) → h.low ≡ l + 1 → children_at h.branch (l + 1) < h.shape.c → h.used < h.shape.n → Firm (made h a l)
+  unfolding made with_branch level_new level_child
+  firm_made a l is fewer room = record {
     shaped = f.shaped;
     used = omega arith;
     ordered = omega (arith, f.ordered);
     top = f.top;
     placed = λ m x y.
         either m l (λ k. (get_or (set h.branch.places l (record { 0 = h.used })) k (record { 0 = 0 })).0 < h.used + 1)
-        (omega (arith, place-most h.branch.places l h.used))
+        (omega (arith, place_most h.branch.places l h.used))
         (λ ne. rw (get_or-set_other h.branch.places l m (record { 0 = h.used }) (record { 0 = 0 }) ne) (omega (arith, f.placed m (omega arith) y)));
     intervals = λ m x y.
         either m l (λ k. get_or (set h.branch.intervals l 0) k 0 ≤ h.shape.k)
-        (omega (arith, set-most h.branch.intervals l 0))
+        (omega (arith, set_most h.branch.intervals l 0))
         (λ ne. rw (get_or-set_other h.branch.intervals l m 0 0 ne) (f.intervals m (omega arith) y));
     children = λ m x y.
-        either m l (λ k. get_or (set (set h.branch.children (l + 1) (childrenAt h.branch (l + 1) + 1)) l 0) k 0 ≤ h.shape.c)
-        (omega (arith, set-most (set h.branch.children (l + 1) (childrenAt h.branch (l + 1) + 1)) l 0))
-        (λ ne. rw (get_or-set_other (set h.branch.children (l + 1) (childrenAt h.branch (l + 1) + 1)) l m 0 0 ne)
+        either m l (λ k. get_or (set (set h.branch.children (l + 1) (children_at h.branch (l + 1) + 1)) l 0) k 0 ≤ h.shape.c)
+        (omega (arith, set_most (set h.branch.children (l + 1) (children_at h.branch (l + 1) + 1)) l 0))
+        (λ ne. rw (get_or-set_other (set h.branch.children (l + 1) (children_at h.branch (l + 1) + 1)) l m 0 0 ne)
         (one_more h.branch.children (l + 1) m h.shape.c fewer (f.children m (omega arith) y)));
     largest = f.largest;
-    last = λ p. omega (arith, set-most h.branch.last_ends l 0);
+    last = λ p. omega (arith, set_most h.branch.last_ends l 0);
   }
 
   -- an open level takes an interval
-  pub firm-stored : (l : ℕ) → intervalsAt h.branch l < h.shape.k → Firm (stored h l)
-  unfolding stored withBranch levelStored
-  firm-stored l fewer = record {
+  pub firm_stored : (l : ℕ) → intervals_at h.branch l < h.shape.k → Firm (stored h l)
+  unfolding stored with_branch level_stored
+  firm_stored l fewer = record {
     shaped = f.shaped;
     used = f.used;
     ordered = f.ordered;
@@ -115,9 +115,9 @@ module _ (h : History) (f : Firm h) where
   }
 
   -- S grows
-  pub firm-stretched : (e : ℕ) → e ≤ lastTime → Firm (stretched h e)
-  unfolding stretched withLargest
-  firm-stretched e le = record {
+  pub firm_stretched : (e : ℕ) → e ≤ last_time → Firm (stretched h e)
+  unfolding stretched with_largest
+  firm_stretched e le = record {
     shaped = f.shaped;
     used = f.used;
     ordered = f.ordered;
@@ -130,9 +130,9 @@ module _ (h : History) (f : Firm h) where
   }
 
   -- the latest time and the count of attributes do not matter
-  pub firm-at-time : (t : ℕ) → Firm (atTime h t)
-  unfolding atTime
-  firm-at-time t = record {
+  pub firm_at_time : (t : ℕ) → Firm (at_time h t)
+  unfolding at_time
+  firm_at_time t = record {
     shaped = f.shaped;
     used = f.used;
     ordered = f.ordered;
@@ -144,9 +144,9 @@ module _ (h : History) (f : Firm h) where
     last = f.last;
   }
 
-  pub firm-with-attribute : Firm (withAttribute h)
-  unfolding withAttribute
-  firm-with-attribute = record {
+  pub firm_with_attribute : Firm (with_attribute h)
+  unfolding with_attribute
+  firm_with_attribute = record {
     shaped = f.shaped;
     used = f.used;
     ordered = f.ordered;

@@ -8,92 +8,92 @@ use lib.Dec.{eqb}
 use lib.ListN.{get_or}
 use borrow.Author.Tests.{le-leb, lt-leb, eq-eqb, ne_eqb, not-true, not-false}
 use Rattle.layout.specs.declared.Shape.{Shape}
-use Rattle.record.specs.Record.{Branch, branchOf}
-use Rattle.record.specs.Levels.{placeAt, start_at}
-use Rattle.record.specs.Sound.{all, levelSound, apart, levelsSound, startsFall}
-use Rattle.record.proofs.Lies.{place-lies, start-lies}
+use Rattle.record.specs.Record.{Branch, branch_of}
+use Rattle.record.specs.Levels.{place_at, start_at}
+use Rattle.record.specs.Sound.{all, level_sound, apart, levels_sound, starts_fall}
+use Rattle.record.proofs.Lies.{place_lies, start_lies}
 
 module _ (p : ℕ → Bool) (i n : ℕ) where
   pub all_none : n ≡ 0 → all p i n ≡ true
   unfolding all
   all_none e = rw e
 
-  pub all-fails : (m : ℕ) → n ≡ suc m → p i ≡ false → all p i n ≡ false
+  pub all_fails : (m : ℕ) → n ≡ suc m → p i ≡ false → all p i n ≡ false
   unfolding all
-  all-fails m e f = rw e (simp f)
+  all_fails m e f = rw e (simp f)
 
-  pub all-turn : (j m : ℕ) → j ≡ i + 1 → n ≡ suc m → p i ≡ true → all p i n ≡ all p j m
+  pub all_turn : (j m : ℕ) → j ≡ i + 1 → n ≡ suc m → p i ≡ true → all p i n ≡ all p j m
   unfolding all
-  all-turn j m e f g = rw (f, e) (simp g)
+  all_turn j m e f g = rw (f, e) (simp g)
 
 -- ---- starts
 
-next_start : (w : List ℕ) (l : ℕ) → l + 1 < 16 → start_at (branchOf w) (l + 1) ≡ get_or w (16 + l + 1) 0
-next_start w l lt = start-lies w (l + 1) lt ∙ ap (λ i. get_or w i 0) (omega arith)
+next_start : (w : List ℕ) (l : ℕ) → l + 1 < 16 → start_at (branch_of w) (l + 1) ≡ get_or w (16 + l + 1) 0
+next_start w l lt = start_lies w (l + 1) lt ∙ ap (λ i. get_or w i 0) (omega arith)
 
-module _ (w : List ℕ) (low top level : ℕ) (so_far : startsFall (branchOf w) level top ≡ startsFall (branchOf w) low top) where
-  pub starts-fail : level < top → top < 16 → get_or w (16 + level) 0 < get_or w (16 + level + 1) 0 → false ≡ startsFall (branchOf w) low top
-  unfolding startsFall
-  starts-fail lt small f =
-      sym (all-fails _ level (top - level) (top - (level + 1)) (omega arith) (simp (start-lies w level (omega arith), next_start w level (omega arith), lt-leb _ _ f)))
+module _ (w : List ℕ) (low top level : ℕ) (so_far : starts_fall (branch_of w) level top ≡ starts_fall (branch_of w) low top) where
+  pub starts_fail : level < top → top < 16 → get_or w (16 + level) 0 < get_or w (16 + level + 1) 0 → false ≡ starts_fall (branch_of w) low top
+  unfolding starts_fall
+  starts_fail lt small f =
+      sym (all_fails _ level (top - level) (top - (level + 1)) (omega arith) (simp (start_lies w level (omega arith), next_start w level (omega arith), lt-leb _ _ f)))
       ∙ so_far
 
-  pub starts-turn : level < top → top < 16 → get_or w (16 + level + 1) 0 ≤ get_or w (16 + level) 0 → startsFall (branchOf w) (level + 1) top ≡ startsFall (branchOf w) low top
-  unfolding startsFall
-  starts-turn lt small f =
-      sym (all-turn _ level (top - level) (level + 1) (top - (level + 1)) refl (omega arith) (simp (start-lies w level (omega arith), next_start w level (omega arith), le-leb _ _ f)))
+  pub starts_turn : level < top → top < 16 → get_or w (16 + level + 1) 0 ≤ get_or w (16 + level) 0 → starts_fall (branch_of w) (level + 1) top ≡ starts_fall (branch_of w) low top
+  unfolding starts_fall
+  starts_turn lt small f =
+      sym (all_turn _ level (top - level) (level + 1) (top - (level + 1)) refl (omega arith) (simp (start_lies w level (omega arith), next_start w level (omega arith), le-leb _ _ f)))
       ∙ so_far
 
-  pub starts-end : top ≤ level → true ≡ startsFall (branchOf w) low top
-  unfolding startsFall
-  starts-end le = sym (all_none _ level (top - level) (omega arith)) ∙ so_far
+  pub starts_end : top ≤ level → true ≡ starts_fall (branch_of w) low top
+  unfolding starts_fall
+  starts_end le = sym (all_none _ level (top - level) (omega arith)) ∙ so_far
 
 -- ---- places that differ
 
 -- what is left of the levels above l, from level j on
-abbrev pub apartFrom : Branch → ℕ → ℕ → ℕ → Bool
-apartFrom b l top j = all (λ k. not (eqb (placeAt b k) (placeAt b l))) j (top + 1 - j)
+abbrev pub apart_from : Branch → ℕ → ℕ → ℕ → Bool
+apart_from b l top j = all (λ k. not (eqb (place_at b k) (place_at b l))) j (top + 1 - j)
 
-pub apart-begin : (b : Branch) (l top : ℕ) → apartFrom b l top (l + 1) ≡ apart b l (top - l)
+pub apart_begin : (b : Branch) (l top : ℕ) → apart_from b l top (l + 1) ≡ apart b l (top - l)
 unfolding apart
-apart-begin b l top = let e : top + 1 - (l + 1) ≡ top - l = omega arith in rw e
+apart_begin b l top = let e : top + 1 - (l + 1) ≡ top - l = omega arith in rw e
 
-module _ (w : List ℕ) (l top j : ℕ) (so_far : apartFrom (branchOf w) l top j ≡ apart (branchOf w) l (top - l)) where
-  pub apart-fail : j ≤ top → l ≤ top → top < 16 → get_or w j 0 ≡ get_or w l 0 → false ≡ apart (branchOf w) l (top - l)
-  apart-fail le under small e =
-      sym (all-fails _ j (top + 1 - j) (top + 1 - (j + 1)) (omega arith) (simp (place-lies w j (omega arith), place-lies w l (omega arith), eq-eqb _ _ e)))
+module _ (w : List ℕ) (l top j : ℕ) (so_far : apart_from (branch_of w) l top j ≡ apart (branch_of w) l (top - l)) where
+  pub apart_fail : j ≤ top → l ≤ top → top < 16 → get_or w j 0 ≡ get_or w l 0 → false ≡ apart (branch_of w) l (top - l)
+  apart_fail le under small e =
+      sym (all_fails _ j (top + 1 - j) (top + 1 - (j + 1)) (omega arith) (simp (place_lies w j (omega arith), place_lies w l (omega arith), eq-eqb _ _ e)))
       ∙ so_far
 
-  pub apart-turn : j ≤ top → l ≤ top → top < 16 → (get_or w j 0 ≡ get_or w l 0 → ⊥) → apartFrom (branchOf w) l top (j + 1) ≡ apart (branchOf w) l (top - l)
-  apart-turn le under small e =
-      sym (all-turn _ j (top + 1 - j) (j + 1) (top + 1 - (j + 1)) refl (omega arith) (simp (place-lies w j (omega arith), place-lies w l (omega arith), ne_eqb _ _ e)))
+  pub apart_turn : j ≤ top → l ≤ top → top < 16 → (get_or w j 0 ≡ get_or w l 0 → ⊥) → apart_from (branch_of w) l top (j + 1) ≡ apart (branch_of w) l (top - l)
+  apart_turn le under small e =
+      sym (all_turn _ j (top + 1 - j) (j + 1) (top + 1 - (j + 1)) refl (omega arith) (simp (place_lies w j (omega arith), place_lies w l (omega arith), ne_eqb _ _ e)))
       ∙ so_far
 
-  pub apart-end : top < j → true ≡ apart (branchOf w) l (top - l)
-  apart-end lt = sym (all_none _ j (top + 1 - j) (omega arith)) ∙ so_far
+  pub apart_end : top < j → true ≡ apart (branch_of w) l (top - l)
+  apart_end lt = sym (all_none _ j (top + 1 - j) (omega arith)) ∙ so_far
 
 -- ---- levels
 
-module _ (b : Branch) (s : Shape) (used low top level : ℕ) (so_far : levelsSound b s used level top ≡ levelsSound b s used low top) where
-  pub levels-end : top < level → true ≡ levelsSound b s used low top
-  unfolding levelsSound
-  levels-end lt = sym (all_none _ level (top + 1 - level) (omega arith)) ∙ so_far
+module _ (b : Branch) (s : Shape) (used low top level : ℕ) (so_far : levels_sound b s used level top ≡ levels_sound b s used low top) where
+  pub levels_end : top < level → true ≡ levels_sound b s used low top
+  unfolding levels_sound
+  levels_end lt = sym (all_none _ level (top + 1 - level) (omega arith)) ∙ so_far
 
-  module _ (le : level ≤ top) (x : Bool) (one : x ≡ levelSound b s used level) where
-    pub level-fails : not x ≡ true → false ≡ levelsSound b s used low top
-    unfolding levelsSound
-    level-fails n =
-        sym (all-fails _ level (top + 1 - level) (top + 1 - (level + 1)) (omega arith) (simp (← one, not-true x n))) ∙ so_far
+  module _ (le : level ≤ top) (x : Bool) (one : x ≡ level_sound b s used level) where
+    pub level_fails : not x ≡ true → false ≡ levels_sound b s used low top
+    unfolding levels_sound
+    level_fails n =
+        sym (all_fails _ level (top + 1 - level) (top + 1 - (level + 1)) (omega arith) (simp (← one, not-true x n))) ∙ so_far
 
     module _ (m : not x ≡ false) (y : Bool) (places : y ≡ apart b level (top - level)) where
-      pub places-fail : not y ≡ true → false ≡ levelsSound b s used low top
-      unfolding levelsSound
-      places-fail n =
-          sym (all-fails _ level (top + 1 - level) (top + 1 - (level + 1)) (omega arith) (simp (← one, not-false x m, ← places, not-true y n)))
+      pub places_fail : not y ≡ true → false ≡ levels_sound b s used low top
+      unfolding levels_sound
+      places_fail n =
+          sym (all_fails _ level (top + 1 - level) (top + 1 - (level + 1)) (omega arith) (simp (← one, not-false x m, ← places, not-true y n)))
           ∙ so_far
 
-      pub levels-turn : not y ≡ false → levelsSound b s used (level + 1) top ≡ levelsSound b s used low top
-      unfolding levelsSound
-      levels-turn n =
-          sym (all-turn _ level (top + 1 - level) (level + 1) (top + 1 - (level + 1)) refl (omega arith) (simp (← one, not-false x m, ← places, not-false y n)))
+      pub levels_turn : not y ≡ false → levels_sound b s used (level + 1) top ≡ levels_sound b s used low top
+      unfolding levels_sound
+      levels_turn n =
+          sym (all_turn _ level (top + 1 - level) (level + 1) (top + 1 - (level + 1)) refl (omega arith) (simp (← one, not-false x m, ← places, not-false y n)))
           ∙ so_far

@@ -1,10 +1,10 @@
 -- What the build rule needs of an unfinished record and keeps, move by move. A sound record is firm; a firm one need not be sound.
 use Rattle.std.specs.Prelude.{ℕ, ◌+◌, ◌≤◌, ◌<◌, ◌≡◌, length}
 use Rattle.layout.specs.declared.Shape.{Shape}
-use Rattle.layout.specs.Layout.{nodeSize}
+use Rattle.layout.specs.Layout.{node_size}
 use Rattle.record.specs.Record.{Branch, History}
-use Rattle.record.specs.Levels.{placeAt, start_at, intervalsAt, childrenAt, lastEndAt}
-use Rattle.record.specs.Sound.{lastTime}
+use Rattle.record.specs.Levels.{place_at, start_at, intervals_at, children_at, last_end_at}
+use Rattle.record.specs.Sound.{last_time}
 
 -- what an allowed shape gives
 pub record Shaped (s : Shape) : Type 0 where
@@ -12,7 +12,7 @@ pub record Shaped (s : Shape) : Type 0 where
   pub two : 2 ≤ s.c
   pub fifty : s.c ≤ 50
   pub small : s.k ≤ 2047
-  pub size : nodeSize s ≤ 65536
+  pub size : node_size s ≤ 65536
   pub nodes : s.n ≤ 65536
 
 pub record Firm (h : History) : Type 0 where
@@ -20,17 +20,17 @@ pub record Firm (h : History) : Type 0 where
   pub used : h.used ≤ h.shape.n
   pub ordered : h.low ≤ h.top
   pub top : h.top ≤ 15
-  pub placed : (l : ℕ) → h.low ≤ l → l ≤ h.top → placeAt h.branch l < h.used
-  pub intervals : (l : ℕ) → h.low ≤ l → l ≤ h.top → intervalsAt h.branch l ≤ h.shape.k
-  pub children : (l : ℕ) → h.low ≤ l → l ≤ h.top → childrenAt h.branch l ≤ h.shape.c
-  pub largest : h.largest_end ≤ lastTime
-  pub last : 0 < h.low → lastEndAt h.branch h.low ≤ lastTime
+  pub placed : (l : ℕ) → h.low ≤ l → l ≤ h.top → place_at h.branch l < h.used
+  pub intervals : (l : ℕ) → h.low ≤ l → l ≤ h.top → intervals_at h.branch l ≤ h.shape.k
+  pub children : (l : ℕ) → h.low ≤ l → l ≤ h.top → children_at h.branch l ≤ h.shape.c
+  pub largest : h.largest_end ≤ last_time
+  pub last : 0 < h.low → last_end_at h.branch h.low ≤ last_time
 
 -- ═══ What a sound record gives, as plain facts ═══
 
 pub record Numbered (h : History) : Type 0 where
   pub attributes : h.attributes ≤ 4096
-  pub latest : h.latest ≤ lastTime
+  pub latest : h.latest ≤ last_time
   pub begun : h.start ≤ h.latest
   pub from : h.start ≤ h.largest_end
   pub to : h.largest_end ≤ h.latest
@@ -40,17 +40,17 @@ pub record Numbered (h : History) : Type 0 where
 
 -- an open level by itself, and its place against those above it
 pub record OpenLevel (h : History) (l : ℕ) : Type 0 where
-  pub intervals : intervalsAt h.branch l ≤ h.shape.k
-  pub children : childrenAt h.branch l ≤ h.shape.c
-  pub placed : placeAt h.branch l < h.used
-  pub parent : 0 < l → 1 ≤ childrenAt h.branch l
-  pub apart : (m : ℕ) → l < m → m ≤ h.top → placeAt h.branch m ≡ placeAt h.branch l → ⊥
+  pub intervals : intervals_at h.branch l ≤ h.shape.k
+  pub children : children_at h.branch l ≤ h.shape.c
+  pub placed : place_at h.branch l < h.used
+  pub parent : 0 < l → 1 ≤ children_at h.branch l
+  pub apart : (m : ℕ) → l < m → m ≤ h.top → place_at h.branch m ≡ place_at h.branch l → ⊥
 
 -- the open branch, until finish
 pub record Unfinished (h : History) : Type 0 where
   pub ordered : h.low ≤ h.top
   pub root : start_at h.branch h.top ≡ h.start
-  pub last : 0 < h.low → (h.start ≤ lastEndAt h.branch h.low) × (lastEndAt h.branch h.low ≤ h.latest)
+  pub last : 0 < h.low → (h.start ≤ last_end_at h.branch h.low) × (last_end_at h.branch h.low ≤ h.latest)
   pub falls : (l : ℕ) → h.low ≤ l → l < h.top → start_at h.branch (l + 1) ≤ start_at h.branch l
   pub levels : (l : ℕ) → h.low ≤ l → l ≤ h.top → OpenLevel h l
 
@@ -66,12 +66,12 @@ pub record Long (b : Branch) : Type 0 where
 
 -- the entries of a level
 pub record LevelIs (b : Branch) (l place start intervals children last_end : ℕ) : Type 0 where
-  pub at_place : placeAt b l ≡ place
-  pub at-start : start_at b l ≡ start
-  pub at-intervals : intervalsAt b l ≡ intervals
-  pub at-children : childrenAt b l ≡ children
-  pub at-last-end : lastEndAt b l ≡ last_end
+  pub at_place : place_at b l ≡ place
+  pub at_start : start_at b l ≡ start
+  pub at_intervals : intervals_at b l ≡ intervals
+  pub at_children : children_at b l ≡ children
+  pub at_last_end : last_end_at b l ≡ last_end
 
 -- a level is as it was
 abbrev pub SameLevel : Branch → Branch → ℕ → Type 0
-SameLevel a b l = LevelIs a l (placeAt b l) (start_at b l) (intervalsAt b l) (childrenAt b l) (lastEndAt b l)
+SameLevel a b l = LevelIs a l (place_at b l) (start_at b l) (intervals_at b l) (children_at b l) (last_end_at b l)

@@ -1,13 +1,13 @@
 -- The only ways in which a record changes. A field that is added later changes the setters below and nothing else.
 use Rattle.std.specs.Prelude.{ℕ, ◌+◌, max, true, List, get_or, set}
 use Rattle.record.specs.Record.{Branch, History}
-use Rattle.record.specs.Levels.{intervalsAt, childrenAt}
+use Rattle.record.specs.Levels.{intervals_at, children_at}
 
 -- ═══ A level's numbers: the only four ways in which they change ═══
 
 -- a new node: "intervals, children" as its header says, no interval yet
-unfoldable pub levelNew : Branch → ℕ → ℕ → ℕ → ℕ → ℕ → Branch
-levelNew b l place start children last_end = record {
+unfoldable pub level_new : Branch → ℕ → ℕ → ℕ → ℕ → ℕ → Branch
+level_new b l place start children last_end = record {
   places = set b.places l (record { 0 = place });
   starts = set b.starts l start;
   intervals = set b.intervals l 0;
@@ -16,28 +16,28 @@ levelNew b l place start children last_end = record {
 }
 
 -- one more child
-unfoldable pub levelChild : Branch → ℕ → Branch
-levelChild b l = record {
+unfoldable pub level_child : Branch → ℕ → Branch
+level_child b l = record {
   places = b.places;
   starts = b.starts;
   intervals = b.intervals;
-  children = set b.children l (childrenAt b l + 1);
+  children = set b.children l (children_at b l + 1);
   last_ends = b.last_ends;
 }
 
 -- one more interval
-unfoldable pub levelStored : Branch → ℕ → Branch
-levelStored b l = record {
+unfoldable pub level_stored : Branch → ℕ → Branch
+level_stored b l = record {
   places = b.places;
   starts = b.starts;
-  intervals = set b.intervals l (intervalsAt b l + 1);
+  intervals = set b.intervals l (intervals_at b l + 1);
   children = b.children;
   last_ends = b.last_ends;
 }
 
 -- its last child has closed with this end
-unfoldable pub levelClosed : Branch → ℕ → ℕ → Branch
-levelClosed b l end = record {
+unfoldable pub level_closed : Branch → ℕ → ℕ → Branch
+level_closed b l end = record {
   places = b.places;
   starts = b.starts;
   intervals = b.intervals;
@@ -47,8 +47,8 @@ levelClosed b l end = record {
 
 -- ═══ Setters of the record ═══
 
-unfoldable pub withBranch : History → ℕ → ℕ → ℕ → Branch → History
-withBranch h used low top b = record {
+unfoldable pub with_branch : History → ℕ → ℕ → ℕ → Branch → History
+with_branch h used low top b = record {
   shape = h.shape;
   start = h.start;
   latest = h.latest;
@@ -61,8 +61,8 @@ withBranch h used low top b = record {
   branch = b;
 }
 
-unfoldable pub withLargest : History → ℕ → History
-withLargest h e = record {
+unfoldable pub with_largest : History → ℕ → History
+with_largest h e = record {
   shape = h.shape;
   start = h.start;
   latest = h.latest;
@@ -76,8 +76,8 @@ withLargest h e = record {
 }
 
 -- "a change at time t makes it t"
-unfoldable pub atTime : History → ℕ → History
-atTime h t = record {
+unfoldable pub at_time : History → ℕ → History
+at_time h t = record {
   shape = h.shape;
   start = h.start;
   latest = t;
@@ -90,8 +90,8 @@ atTime h t = record {
   branch = h.branch;
 }
 
-unfoldable pub withAttribute : History → History
-withAttribute h = record {
+unfoldable pub with_attribute : History → History
+with_attribute h = record {
   shape = h.shape;
   start = h.start;
   latest = h.latest;
@@ -105,8 +105,8 @@ withAttribute h = record {
 }
 
 -- "closes all open nodes with end T. T becomes the latest time": no level is open, low is top + 1
-unfoldable pub finishedAt : History → ℕ → History
-finishedAt h t = record {
+unfoldable pub finished_at : History → ℕ → History
+finished_at h t = record {
   shape = h.shape;
   start = h.start;
   latest = t;
@@ -123,28 +123,28 @@ finishedAt h t = record {
 
 -- the lowest level closes with the end S, under an open one
 unfoldable pub closed : History → History
-closed h = withBranch h h.used (h.low + 1) h.top (levelClosed h.branch (h.low + 1) h.largest_end)
+closed h = with_branch h h.used (h.low + 1) h.top (level_closed h.branch (h.low + 1) h.largest_end)
 
 -- "a new root is made first: one level higher, starting at the history's start, with the old root as its only child": the old root's end is S
 unfoldable pub raised : History → History
-raised h = withBranch h (h.used + 1) (h.top + 1) (h.top + 1) (levelNew h.branch (h.top + 1) h.used h.start 1 h.largest_end)
+raised h = with_branch h (h.used + 1) (h.top + 1) (h.top + 1) (level_new h.branch (h.top + 1) h.used h.start 1 h.largest_end)
 
 -- a node of a chain: the lowest level, one above `l`, gets a new child that starts at `a`
 unfoldable pub made : History → ℕ → ℕ → History
-made h a l = withBranch h (h.used + 1) l h.top (levelNew (levelChild h.branch (l + 1)) l h.used a 0 0)
+made h a l = with_branch h (h.used + 1) l h.top (level_new (level_child h.branch (l + 1)) l h.used a 0 0)
 
 -- level l takes an interval
 unfoldable pub stored : History → ℕ → History
-stored h l = withBranch h h.used h.low h.top (levelStored h.branch l)
+stored h l = with_branch h h.used h.low h.top (level_stored h.branch l)
 
 -- "S is the largest end stored so far"
 unfoldable pub stretched : History → ℕ → History
-stretched h e = withLargest h (max h.largest_end e)
+stretched h e = with_largest h (max h.largest_end e)
 
 -- ═══ A level's numbers in the array that the record lies in ═══
 
-unfoldable pub levelSet : List ℕ → ℕ → ℕ → ℕ → ℕ → ℕ → List ℕ
-levelSet w l place start children last_end = set (set (set (set (set w l place) (16 + l) start) (32 + l) 0) (48 + l) children) (64 + l) last_end
+unfoldable pub level_set : List ℕ → ℕ → ℕ → ℕ → ℕ → ℕ → List ℕ
+level_set w l place start children last_end = set (set (set (set (set w l place) (16 + l) start) (32 + l) 0) (48 + l) children) (64 + l) last_end
 
-unfoldable pub childSet : List ℕ → ℕ → List ℕ
-childSet w l = set w (48 + l) (get_or w (48 + l) 0 + 1)
+unfoldable pub child_set : List ℕ → ℕ → List ℕ
+child_set w l = set w (48 + l) (get_or w (48 + l) 0 + 1)

@@ -31,8 +31,8 @@ unfoldable pub sixteen : List ℕ → ℕ → List ℕ
 sixteen w i = take 16 (drop i w)
 
 -- first the branch: places, starts, interval counts, child counts, last-child ends
-unfoldable pub branchOf : List ℕ → Branch
-branchOf w = record {
+unfoldable pub branch_of : List ℕ → Branch
+branch_of w = record {
   places = map (λ p. record { 0 = p }) (sixteen w 0);
   starts = sixteen w 16;
   intervals = sixteen w 32;
@@ -44,42 +44,42 @@ branchOf w = record {
 abbrev pub start_in : List ℕ → ℕ
 start_in w = get_or w 80 0
 
-abbrev pub latestIn : List ℕ → ℕ
-latestIn w = get_or w 81 0
+abbrev pub latest_in : List ℕ → ℕ
+latest_in w = get_or w 81 0
 
-abbrev pub largestEndIn : List ℕ → ℕ
-largestEndIn w = get_or w 82 0
+abbrev pub largest_end_in : List ℕ → ℕ
+largest_end_in w = get_or w 82 0
 
-abbrev pub attributesIn : List ℕ → ℕ
-attributesIn w = get_or w 83 0
+abbrev pub attributes_in : List ℕ → ℕ
+attributes_in w = get_or w 83 0
 
-abbrev pub usedIn : List ℕ → ℕ
-usedIn w = get_or w 84 0
+abbrev pub used_in : List ℕ → ℕ
+used_in w = get_or w 84 0
 
-abbrev pub lowIn : List ℕ → ℕ
-lowIn w = get_or w 85 0
+abbrev pub low_in : List ℕ → ℕ
+low_in w = get_or w 85 0
 
-abbrev pub topIn : List ℕ → ℕ
-topIn w = get_or w 86 0
+abbrev pub top_in : List ℕ → ℕ
+top_in w = get_or w 86 0
 
 -- no level is open
-abbrev pub finishedIn : List ℕ → Bool
-finishedIn w = ltb (topIn w) (lowIn w)
+abbrev pub finished_in : List ℕ → Bool
+finished_in w = ltb (top_in w) (low_in w)
 
-abbrev pub recordOf : Shape → List ℕ → History
-recordOf s w = record {
+abbrev pub record_of : Shape → List ℕ → History
+record_of s w = record {
   shape = s;
   start = start_in w;
-  latest = latestIn w;
-  largest_end = largestEndIn w;
-  attributes = attributesIn w;
-  used = usedIn w;
-  low = lowIn w;
-  top = topIn w;
-  finished = finishedIn w;
-  branch = branchOf w;
+  latest = latest_in w;
+  largest_end = largest_end_in w;
+  attributes = attributes_in w;
+  used = used_in w;
+  low = low_in w;
+  top = top_in w;
+  finished = finished_in w;
+  branch = branch_of w;
 }
 
 -- what a move of the record does to the array
 abbrev pub Becomes : List ℕ → List ℕ → (History → History) → Type 0
-Becomes w w' move = (length w' ≡ 87) × ((s : Shape) → recordOf s w' ≡ move (recordOf s w))
+Becomes w w' move = (length w' ≡ 87) × ((s : Shape) → record_of s w' ≡ move (record_of s w))

@@ -28,9 +28,9 @@ first_of [] = Nothing
 first_of (x ∷ rest) = cond x.0 x.1 (first_of rest)
 
 -- the same, where what follows the list decides if none of its tests holds
-abbrev pub firstElse : List (Bool × Refusal) → Refusal → Refusal
-firstElse [] r = r
-firstElse (x ∷ rest) r = cond x.0 x.1 (firstElse rest r)
+abbrev pub first_else : List (Bool × Refusal) → Refusal → Refusal
+first_else [] r = r
+first_else (x ∷ rest) r = cond x.0 x.1 (first_else rest r)
 
 -- 0 accepted
 abbrev pub accepted : Refusal → Bool

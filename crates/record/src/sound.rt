@@ -1,8 +1,8 @@
 // When a record is sound, clause by clause as document 01 lists them, and when lent buffers are long enough for it.
 ghost use Rattle.std.specs.Prelude.{◌≡◌, ◌&&◌, ◌||◌, leb, eqb, length, ◌+◌, ◌-◌, ◌*◌, ◌/◌, ◌≤◌, ◌<◌};
-ghost use Rattle.layout.specs.Layout.{nodeSize, entrySize};
-ghost use Rattle.record.specs.Record.{branchOf, finishedIn, recordOf, usedIn, topIn};
-ghost use Rattle.record.specs.Sound.{shapeAllowed, numbersSound, levelSound, apart, levelsSound, startsFall, branchSound, sound, admitted};
+ghost use Rattle.layout.specs.Layout.{node_size, entry_size};
+ghost use Rattle.record.specs.Record.{branch_of, finished_in, record_of, used_in, top_in};
+ghost use Rattle.record.specs.Sound.{shape_allowed, numbers_sound, level_sound, apart, levels_sound, starts_fall, branch_sound, sound, admitted};
 ghost use Rattle.record.specs.Firm.{Shaped};
 
 use crate::{
@@ -16,7 +16,7 @@ pub const LAST_TIME: u64 = 9223372036854775807;
 
 // "K intervals per node, at least 1; C children, 2 to 50. Node size at most 65,536 bytes. N nodes, 1 to 65,536."
 pub fn shape_allowed(s: Shape) -> bool
-    ensures { result ≡ shapeAllowed s }
+    ensures { result ≡ shape_allowed s }
 {
     let size = layout::node_size(s);
     (1 <= s.k) & (2 <= s.c) & (s.c <= 50) & (size <= 65536) & (1 <= s.n) & (s.n <= 65536)
@@ -25,7 +25,7 @@ pub fn shape_allowed(s: Shape) -> bool
 // "its shape is allowed, numbers are within limits, the used count 1 to N, start is at or below latest, S lies in that span"
 // A ladder, not `&`: each test is then one compare and branch, never taken in a sound record. Start against latest is not among them: S lies between the two.
 fn numbers_sound(s: Shape, h: &[u64; 87]) -> bool
-    ensures { result ≡ numbersSound (recordOf s h.now) }
+    ensures { result ≡ numbers_sound (record_of s h.now) }
 {
     if 4096 < h[ATTRIBUTES] {
         return false;
@@ -48,7 +48,7 @@ fn numbers_sound(s: Shape, h: &[u64; 87]) -> bool
 // "open counts within K and C, places below the used count, every open level above 0 has a child": a ladder as above
 fn level_sound(h: &[u64; 87], s: Shape, level: u64) -> bool
     requires { level < 16 }
-    ensures { result ≡ levelSound (branchOf h.now) s (usedIn h.now) level }
+    ensures { result ≡ level_sound (branch_of h.now) s (used_in h.now) level }
 {
     let i = level as usize;
     if (s.k as u64) < h[INTERVALS + i] {
@@ -66,7 +66,7 @@ fn level_sound(h: &[u64; 87], s: Shape, level: u64) -> bool
 // "places differ": that of a level from those of the levels above it, up to top
 fn apart(h: &[u64; 87], level: u64, top: u64) -> bool
     requires { (level ≤ top) × (top < 16) }
-    ensures { result ≡ apart (branchOf h.now) level (top - level) }
+    ensures { result ≡ apart (branch_of h.now) level (top - level) }
 {
     let place = h[level as usize];
     let mut above = level + 1;
@@ -82,7 +82,7 @@ fn apart(h: &[u64; 87], level: u64, top: u64) -> bool
 // the open levels
 fn levels_sound(h: &[u64; 87], s: Shape, low: u64, top: u64) -> bool
     requires { (low ≤ top) × (top < 16) }
-    ensures { result ≡ levelsSound (branchOf h.now) s (usedIn h.now) low top }
+    ensures { result ≡ levels_sound (branch_of h.now) s (used_in h.now) low top }
 {
     let mut level = low;
     while level <= top {
@@ -100,7 +100,7 @@ fn levels_sound(h: &[u64; 87], s: Shape, low: u64, top: u64) -> bool
 // "starts not growing upwards": from level low up to top
 fn starts_fall(h: &[u64; 87], low: u64, top: u64) -> bool
     requires { (low ≤ top) × (top < 16) }
-    ensures { result ≡ startsFall (branchOf h.now) low top }
+    ensures { result ≡ starts_fall (branch_of h.now) low top }
 {
     let mut level = low;
     while level < top {
@@ -122,8 +122,8 @@ fn last_end_sound(end: u64, low: u64, start: u64, latest: u64) -> bool
 
 // "open levels run unbroken up to the root (none once finished) with starts not growing upwards and the root's equal to the history's"
 fn branch_sound(s: Shape, h: &[u64; 87]) -> bool
-    requires { topIn h.now < 16 }
-    ensures { result ≡ branchSound (recordOf s h.now) }
+    requires { top_in h.now < 16 }
+    ensures { result ≡ branch_sound (record_of s h.now) }
 {
     let top = h[TOP];
     let low = h[LOW];
@@ -143,7 +143,7 @@ fn branch_sound(s: Shape, h: &[u64; 87]) -> bool
 }
 
 pub fn sound(s: Shape, h: &[u64; 87]) -> bool
-    ensures { result ≡ sound (recordOf s h.now) }
+    ensures { result ≡ sound (record_of s h.now) }
 {
     if !shape_allowed(s) {
         return false;
@@ -156,15 +156,15 @@ pub fn sound(s: Shape, h: &[u64; 87]) -> bool
 
 // "none once finished"
 pub fn finished(h: &[u64; 87]) -> bool
-    ensures { result ≡ finishedIn h.now }
+    ensures { result ≡ finished_in h.now }
 {
     h[TOP] < h[LOW]
 }
 
 // "nodes under N times size, table under the attribute count (not once finished)"
 pub fn long_enough(s: Shape, attributes: u64, finished: bool, nodes: usize, table: usize) -> bool
-    requires { (s.n ≤ 65536) × (nodeSize s ≤ 65536) }
-    ensures { result ≡ leb (s.n * nodeSize s) nodes && (finished || leb attributes (table / entrySize)) }
+    requires { (s.n ≤ 65536) × (node_size s ≤ 65536) }
+    ensures { result ≡ leb (s.n * node_size s) nodes && (finished || leb attributes (table / entry_size)) }
 {
     let size = layout::node_size(s);
     let entries = table / layout::ENTRY;
@@ -174,7 +174,7 @@ pub fn long_enough(s: Shape, attributes: u64, finished: bool, nodes: usize, tabl
 // Where the node at a place stands: "Node i stands at i times the node size."
 pub fn stands_at(place: u32, s: Shape) -> usize
     requires { (place < s.n) × Shaped s }
-    ensures { (result ≡ place * nodeSize s) × (result + nodeSize s ≤ s.n * nodeSize s) }
+    ensures { (result ≡ place * node_size s) × (result + node_size s ≤ s.n * node_size s) }
 {
     let size = layout::node_size(s);
     place as usize * size
@@ -195,7 +195,7 @@ pub fn entire(h: &[u64; 87]) -> usize
 
 // "3 record, 2": the head of every call.
 pub fn admit(s: Shape, h: &[u64; 87], nodes: usize, table: usize) -> Refusal
-    ensures { (result ≡ admitted (recordOf s h.now) nodes table) × (length h.now ≡ 87) }
+    ensures { (result ≡ admitted (record_of s h.now) nodes table) × (length h.now ≡ 87) }
 {
     let all = entire(h); // for the proofs of those who change it
     if !sound(s, h) {

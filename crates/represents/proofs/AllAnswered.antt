@@ -9,8 +9,8 @@ use native.Mathlib.Nat.{add-zero, zero-add}
 use lib.ListN.{length}
 use lib.Seq.{sets}
 use borrow.Author.Tests.{le-ltb}
-use Rattle.layout.specs.Layout.{entrySize, entryBytes, spread}
-use Rattle.layout.proofs.Encoded.{spread-snoc}
+use Rattle.layout.specs.Layout.{entry_size, entry_bytes, spread}
+use Rattle.layout.proofs.Encoded.{spread_snoc}
 use Rattle.record.specs.Record.{History}
 use Rattle.record.specs.declared.Refusal.{Refusal}
 use Rattle.record.specs.declared.Refusal.TheVariants.{Nothing, Damaged, Outside}
@@ -19,102 +19,102 @@ use Rattle.walk.specs.declared.View.{View}
 use Rattle.walk.specs.View.{view_of}
 use Rattle.walk.specs.Rules.{kept}
 use Rattle.walk.specs.Walk.{walk_of}
-use Rattle.questions.specs.Single.{entryFine}
-use Rattle.full_question.specs.Full.{alone, fullEntry, everyQuark, fullEntries, refusedFull, fullRefusal, full_of, fullWritten}
+use Rattle.questions.specs.Single.{entry_fine}
+use Rattle.full_question.specs.Full.{alone, full_entry, every_quark, full_entries, refused_full, full_refusal, full_of, full_written}
 use Rattle.model.specs.Transient.{Interval}
 use Rattle.model.specs.Questions.{each, full, walk}
-use Rattle.model.specs.Refusals.{asked, refuseFull}
+use Rattle.model.specs.Refusals.{asked, refuse_full}
 use Rattle.model.specs.Theorems.{Run, Allowed, left, stands, Calls64}
 use Rattle.represents.specs.Represents.{entry_of}
 use Rattle.represents.specs.Mirrors.{Mirrors}
 use Rattle.represents.specs.Answered.{FullAnswered}
-use Rattle.represents.proofs.Told.{fine, walk-keeps, walk-enters, tells}
-use Rattle.represents.proofs.OneAnswered.{within, asked-same}
+use Rattle.represents.proofs.Told.{fine, walk_keeps, walk_enters, tells}
+use Rattle.represents.proofs.OneAnswered.{within, asked_same}
 
-every : (f : ℕ → Bool) (n : ℕ) → ((q : ℕ) → q < n → f q ≡ true) → everyQuark f n ≡ true
-unfolding everyQuark
+every : (f : ℕ → Bool) (n : ℕ) → ((q : ℕ) → q < n → f q ≡ true) → every_quark f n ≡ true
+unfolding every_quark
 every f zero e = refl
 every f (suc n) e = rw (every f n (λ q h. e q (omega arith)), e n (omega arith))
 
 -- the entries of one attribute more
-entries-snoc : (v : View) (t : ℕ) (nodes table : List ℕ) (q n : ℕ)
-    → fullEntries v t nodes table q (suc n) ≡ fullEntries v t nodes table q n ++ entryBytes (fullEntry v t nodes table (q + n))
-unfolding fullEntries
-entries-snoc v t nodes table q zero = append-nil (entryBytes (fullEntry v t nodes table q)) ∙ ap (λ (n : ℕ). entryBytes (fullEntry v t nodes table n)) (sym (add-zero q))
-entries-snoc v t nodes table q (suc n) =
+entries_snoc : (v : View) (t : ℕ) (nodes table : List ℕ) (q n : ℕ)
+    → full_entries v t nodes table q (suc n) ≡ full_entries v t nodes table q n ++ entry_bytes (full_entry v t nodes table (q + n))
+unfolding full_entries
+entries_snoc v t nodes table q zero = append-nil (entry_bytes (full_entry v t nodes table q)) ∙ ap (λ (n : ℕ). entry_bytes (full_entry v t nodes table n)) (sym (add-zero q))
+entries_snoc v t nodes table q (suc n) =
     let e : q + 1 + n ≡ q + suc n = omega arith in
-    ap (λ (z : List ℕ). entryBytes (fullEntry v t nodes table q) ++ z) (entries-snoc v t nodes table (q + 1) n)
-    ∙ (sym (append_assoc (entryBytes (fullEntry v t nodes table q)) (fullEntries v t nodes table (q + 1) n) (entryBytes (fullEntry v t nodes table (q + 1 + n))))
-    ∙ ap (λ (k : ℕ). fullEntries v t nodes table q (suc n) ++ entryBytes (fullEntry v t nodes table k)) e)
+    ap (λ (z : List ℕ). entry_bytes (full_entry v t nodes table q) ++ z) (entries_snoc v t nodes table (q + 1) n)
+    ∙ (sym (append_assoc (entry_bytes (full_entry v t nodes table q)) (full_entries v t nodes table (q + 1) n) (entry_bytes (full_entry v t nodes table (q + 1 + n))))
+    ∙ ap (λ (k : ℕ). full_entries v t nodes table q (suc n) ++ entry_bytes (full_entry v t nodes table k)) e)
 
 module _ {r : Run} {h : History} {nodes table : List ℕ} (allowed : Allowed r) (values : Calls64 r.calls) (μ : Mirrors r h nodes table) where
-  pub attributes-same : (view_of h).attributes ≡ (left r).attributes
+  pub attributes_same : (view_of h).attributes ≡ (left r).attributes
   unfolding view_of
-  attributes-same = μ.attributes
+  attributes_same = μ.attributes
 
   module _ (t : ℕ) (from : (left r).start ≤ t) (to : t ≤ (left r).latest) where
-    pub entries-fine : everyQuark (λ q. entryFine (view_of h) q table) (view_of h).attributes ≡ true
-    entries-fine = every (λ q. entryFine (view_of h) q table) (view_of h).attributes (λ q lt. fine allowed values μ q (omega (arith, attributes-same)))
+    pub entries_fine : every_quark (λ q. entry_fine (view_of h) q table) (view_of h).attributes ≡ true
+    entries_fine = every (λ q. entry_fine (view_of h) q table) (view_of h).attributes (λ q lt. fine allowed values μ q (omega (arith, attributes_same)))
 
-    pub each-alone : everyQuark (alone (view_of h) t nodes table) (view_of h).attributes ≡ true
-    each-alone = every (alone (view_of h) t nodes table) (view_of h).attributes (λ q lt. (tells allowed values μ t from to q (omega (arith, attributes-same))).only_one)
+    pub each_alone : every_quark (alone (view_of h) t nodes table) (view_of h).attributes ≡ true
+    each_alone = every (alone (view_of h) t nodes table) (view_of h).attributes (λ q lt. (tells allowed values μ t from to q (omega (arith, attributes_same))).only_one)
 
     -- "one interval entry per attribute, in quark order"
-    pub entries-same : (n : ℕ) → n ≤ (left r).attributes
-        → fullEntries (view_of h) t nodes table 0 n ≡ spread entryBytes (map entry_of (each (left r) (walk t none (stands r)) t n))
-    unfolding fullEntries
-    entries-same zero le = refl
-    entries-same (suc n) le =
+    pub entries_same : (n : ℕ) → n ≤ (left r).attributes
+        → full_entries (view_of h) t nodes table 0 n ≡ spread entry_bytes (map entry_of (each (left r) (walk t none (stands r)) t n))
+    unfolding full_entries
+    entries_same zero le = refl
+    entries_same (suc n) le =
         let k = tells allowed values μ t from to n (omega arith) in
         let xs = each (left r) (walk t none (stands r)) t n in
-        entries-snoc (view_of h) t nodes table 0 n
-        ∙ (ap (λ (z : List ℕ). z ++ entryBytes (fullEntry (view_of h) t nodes table (0 + n))) (entries-same n (omega arith))
-        ∙ (ap (λ (m : ℕ). spread entryBytes (map entry_of xs) ++ entryBytes (fullEntry (view_of h) t nodes table m)) (zero-add n)
-        ∙ (ap (λ e. spread entryBytes (map entry_of xs) ++ entryBytes e) k.entry
-        ∙ (sym (spread-snoc entryBytes (map entry_of xs) (entry_of k.x))
-        ∙ (ap (spread entryBytes) (sym (map-append entry_of xs (k.x ∷ [])))
-        ∙ ap (λ (z : List Interval). spread entryBytes (map entry_of (xs ++ z))) (sym k.found))))))
+        entries_snoc (view_of h) t nodes table 0 n
+        ∙ (ap (λ (z : List ℕ). z ++ entry_bytes (full_entry (view_of h) t nodes table (0 + n))) (entries_same n (omega arith))
+        ∙ (ap (λ (m : ℕ). spread entry_bytes (map entry_of xs) ++ entry_bytes (full_entry (view_of h) t nodes table m)) (zero-add n)
+        ∙ (ap (λ e. spread entry_bytes (map entry_of xs) ++ entry_bytes e) k.entry
+        ∙ (sym (spread_snoc entry_bytes (map entry_of xs) (entry_of k.x))
+        ∙ (ap (spread entry_bytes) (sym (map-append entry_of xs (k.x ∷ [])))
+        ∙ ap (λ (z : List Interval). spread entry_bytes (map entry_of (xs ++ z))) (sym k.found))))))
 
   -- ---- the theorem
 
-  module _ (t : ℕ) (answer : List ℕ) (room : h.attributes ≤ length answer / entrySize) where
+  module _ (t : ℕ) (answer : List ℕ) (room : h.attributes ≤ length answer / entry_size) where
     abbrev reason : Bool → Refusal
     reason b = cond (not b) Outside Nothing
 
     -- "query 3 record, 2, 7, 6, 3": of these only 6 is left
-    refusal_is : fullRefusal h t nodes table (length answer) ≡ reason (asked (left r) t)
-    unfolding fullRefusal
-    refusal_is = rw (μ.whole, μ.long, le-ltb (length answer / entrySize) h.attributes room, asked-same allowed values μ t) (go (asked (left r) t) refl)
+    refusal_is : full_refusal h t nodes table (length answer) ≡ reason (asked (left r) t)
+    unfolding full_refusal
+    refusal_is = rw (μ.whole, μ.long, le-ltb (length answer / entry_size) h.attributes room, asked_same allowed values μ t) (go (asked (left r) t) refl)
       where
         go : (b : Bool) → asked (left r) t ≡ b
-            → cond (not b) Outside (cond (not (everyQuark (λ q. entryFine (view_of h) q table) (view_of h).attributes)) Damaged
-            (cond (not (kept (walk_of nodes (view_of h) t).rule)) Damaged (cond (not (everyQuark (alone (view_of h) t nodes table) (view_of h).attributes)) Damaged Nothing)))
+            → cond (not b) Outside (cond (not (every_quark (λ q. entry_fine (view_of h) q table) (view_of h).attributes)) Damaged
+            (cond (not (kept (walk_of nodes (view_of h) t).rule)) Damaged (cond (not (every_quark (alone (view_of h) t nodes table) (view_of h).attributes)) Damaged Nothing)))
             ≡ cond (not b) Outside Nothing
         go false f = refl
         go true f =
             let w = within (left r).start (left r).latest t f in
-            rw (entries-fine t w.0 w.1, walk-keeps allowed values μ t w.0 w.1, each-alone t w.0 w.1)
+            rw (entries_fine t w.0 w.1, walk_keeps allowed values μ t w.0 w.1, each_alone t w.0 w.1)
 
     -- The full question is accepted exactly when the model's is, and answers as it does.
-    pub full-answered : FullAnswered r t (full_of h t nodes table (length answer)) answer (fullWritten h t nodes table answer)
-    unfolding full_of fullWritten refusedFull number_of full
-    full-answered =
+    pub full_answered : FullAnswered r t (full_of h t nodes table (length answer)) answer (full_written h t nodes table answer)
+    unfolding full_of full_written refused_full number_of full
+    full_answered =
         subst (λ (x : Refusal). FullAnswered r t (record { refusal = x; nodes = cond (accepted x) (walk_of nodes (view_of h) t).entered 0 }) answer
-        (cond (accepted x) (sets answer 0 (fullEntries (view_of h) t nodes table 0 h.attributes)) answer)) (sym refusal_is)
+        (cond (accepted x) (sets answer 0 (full_entries (view_of h) t nodes table 0 h.attributes)) answer)) (sym refusal_is)
         (go (asked (left r) t) refl)
       where
         go : (b : Bool) → asked (left r) t ≡ b
             → FullAnswered r t (record { refusal = reason b; nodes = cond (accepted (reason b)) (walk_of nodes (view_of h) t).entered 0 }) answer
-            (cond (accepted (reason b)) (sets answer 0 (fullEntries (view_of h) t nodes table 0 h.attributes)) answer)
-        go false f = let z : refuseFull (left r) t ≡ 6 = rw f in
+            (cond (accepted (reason b)) (sets answer 0 (full_entries (view_of h) t nodes table 0 h.attributes)) answer)
+        go false f = let z : refuse_full (left r) t ≡ 6 = rw f in
             record { number = sym z; nodes = λ y. absurd (omega arith); written = λ y. absurd (omega arith); refused = λ y. (refl, refl) }
         go true f =
-            let z : refuseFull (left r) t ≡ 0 = rw f in
+            let z : refuse_full (left r) t ≡ 0 = rw f in
             let w = within (left r).start (left r).latest t f in
             record {
               number = sym z;
-              nodes = λ y. walk-enters allowed values μ t w.0 w.1;
-              written = λ y. ap (λ (n : ℕ). sets answer 0 (fullEntries (view_of h) t nodes table 0 n)) μ.attributes
-                  ∙ ap (sets answer 0) (entries-same t w.0 w.1 (left r).attributes (omega arith));
+              nodes = λ y. walk_enters allowed values μ t w.0 w.1;
+              written = λ y. ap (λ (n : ℕ). sets answer 0 (full_entries (view_of h) t nodes table 0 n)) μ.attributes
+                  ∙ ap (sets answer 0) (entries_same t w.0 w.1 (left r).attributes (omega arith));
               refused = λ y. absurd (y z);
             }

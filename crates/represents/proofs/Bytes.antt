@@ -10,17 +10,17 @@ use Rattle.layout.specs.Layout as L
 use Rattle.layout.specs.declared.Shape.{Shape}
 use Rattle.layout.specs.declared.Header.{Header}
 use Rattle.layout.specs.declared.Child.{Child}
-use Rattle.layout.specs.Layout.{nodeSize, childAt, entry_at, headerBytes, childBytes, entryBytes, encode, encodeAll}
-use Rattle.layout.proofs.Encoded.{length-encode}
-use Rattle.layout.proofs.Nodes.{length-all, all-around, length_before, all_append, all-header, all-child, all-entry}
+use Rattle.layout.specs.Layout.{node_size, child_at, entry_at, header_bytes, child_bytes, entry_bytes, encode, encode_all}
+use Rattle.layout.proofs.Encoded.{length_encode}
+use Rattle.layout.proofs.Nodes.{length_all, all_around, length_before, all_append, all_header, all_child, all_entry}
 use Rattle.model.specs.Transient.{Interval}
 use Rattle.model.specs.Nodes.{Node, blank, seqs, upto}
 use Rattle.model.proofs.Stood.{Stood}
-use Rattle.represents.specs.Represents.{headerOf, childOf, entry_of, node_of, bytes_of}
+use Rattle.represents.specs.Represents.{header_of, child_of, entry_of, node_of, bytes_of}
 
 -- ---- node X, which stands at its number, made Y
 
-module _ (s : Shape) (ns : List Node) (X Y : Node) (rest b : List ℕ) (at : ℕ) (h : Header) (st : Stood ns X) (is : b ≡ bytes_of s ns ++ rest) (place : at ≡ X.seq * nodeSize s) (head : h ≡ headerOf Y) where
+module _ (s : Shape) (ns : List Node) (X Y : Node) (rest b : List ℕ) (at : ℕ) (h : Header) (st : Stood ns X) (is : b ≡ bytes_of s ns ++ rest) (place : at ≡ X.seq * node_size s) (head : h ≡ header_of Y) where
   abbrev before : List L.Node
   before = map node_of st.before
 
@@ -30,83 +30,83 @@ module _ (s : Shape) (ns : List Node) (X Y : Node) (rest b : List ℕ) (at : ℕ
   number : length before ≡ X.seq
   number = length-map st.before node_of ∙ st.place
 
-  here : b ≡ encodeAll s (before ++ node_of X ∷ after) ++ rest
-  here = is ∙ ap (λ (z : List L.Node). encodeAll s z ++ rest) (ap (map node_of) st.here ∙ map-append node_of st.before (X ∷ st.after))
+  here : b ≡ encode_all s (before ++ node_of X ∷ after) ++ rest
+  here = is ∙ ap (λ (z : List L.Node). encode_all s z ++ rest) (ap (map node_of) st.here ∙ map-append node_of st.before (X ∷ st.after))
 
-  there : encodeAll s (before ++ node_of Y ∷ after) ++ rest ≡ bytes_of s (set ns X.seq Y) ++ rest
-  there = ap (λ (z : List L.Node). encodeAll s z ++ rest) (sym (
+  there : encode_all s (before ++ node_of Y ∷ after) ++ rest ≡ bytes_of s (set ns X.seq Y) ++ rest
+  there = ap (λ (z : List L.Node). encode_all s z ++ rest) (sym (
       ap (λ (z : List Node). map node_of (set z X.seq Y)) st.here
       ∙ ap (map node_of) (set_at st.before X st.after Y X.seq st.place)
       ∙ map-append node_of st.before (Y ∷ st.after)
       ))
 
   -- its header written again
-  pub header-written : X.children ≡ Y.children → X.held ≡ Y.held → sets b at (headerBytes h) ≡ bytes_of s (set ns X.seq Y) ++ rest
-  header-written c k =
-      (λ i. sets (here i) (place i) (headerBytes (head i)))
-      ∙ all-header s before (node_of X) (node_of Y) after rest X.seq number (ap (map childOf) c) (ap (map entry_of) k)
+  pub header_written : X.children ≡ Y.children → X.held ≡ Y.held → sets b at (header_bytes h) ≡ bytes_of s (set ns X.seq Y) ++ rest
+  header_written c k =
+      (λ i. sets (here i) (place i) (header_bytes (head i)))
+      ∙ all_header s before (node_of X) (node_of Y) after rest X.seq number (ap (map child_of) c) (ap (map entry_of) k)
       ∙ there
 
   -- and a child entry behind the others
-  pub child-written : (on k : ℕ) (z : Child) (c : ℕ × ℕ) → on ≡ X.seq * nodeSize s → k ≡ length X.children → z ≡ childOf c → length X.children < s.c
+  pub child_written : (on k : ℕ) (z : Child) (c : ℕ × ℕ) → on ≡ X.seq * node_size s → k ≡ length X.children → z ≡ child_of c → length X.children < s.c
       → X.children ++ c ∷ [] ≡ Y.children → X.held ≡ Y.held
-      → sets (sets b at (headerBytes h)) (on + childAt k) (childBytes z) ≡ bytes_of s (set ns X.seq Y) ++ rest
-  child-written on k z c p m y lt e x =
-      let count : k ≡ length (map childOf X.children) = m ∙ sym (length-map X.children childOf) in
-      (λ i. sets (sets (here i) (place i) (headerBytes (head i))) (p i + childAt (count i)) (childBytes (y i)))
-      ∙ all-child s before (node_of X) (node_of Y) after rest X.seq number (childOf c) (omega (arith, length-map X.children childOf))
-      (sym (map-append childOf X.children (c ∷ [])) ∙ ap (map childOf) e) (ap (map entry_of) x)
+      → sets (sets b at (header_bytes h)) (on + child_at k) (child_bytes z) ≡ bytes_of s (set ns X.seq Y) ++ rest
+  child_written on k z c p m y lt e x =
+      let count : k ≡ length (map child_of X.children) = m ∙ sym (length-map X.children child_of) in
+      (λ i. sets (sets (here i) (place i) (header_bytes (head i))) (p i + child_at (count i)) (child_bytes (y i)))
+      ∙ all_child s before (node_of X) (node_of Y) after rest X.seq number (child_of c) (omega (arith, length-map X.children child_of))
+      (sym (map-append child_of X.children (c ∷ [])) ∙ ap (map child_of) e) (ap (map entry_of) x)
       ∙ there
 
   -- and an interval entry behind the others
-  pub entry-written : (on k : ℕ) (sh : Shape) (x : Interval) → on ≡ X.seq * nodeSize s → sh ≡ s → k ≡ length X.held → length X.held < s.k
+  pub entry_written : (on k : ℕ) (sh : Shape) (x : Interval) → on ≡ X.seq * node_size s → sh ≡ s → k ≡ length X.held → length X.held < s.k
       → X.children ≡ Y.children → X.held ++ x ∷ [] ≡ Y.held
-      → sets (sets b at (headerBytes h)) (on + entry_at sh k) (entryBytes (entry_of x)) ≡ bytes_of s (set ns X.seq Y) ++ rest
-  entry-written on k sh x p r m lt c e =
+      → sets (sets b at (header_bytes h)) (on + entry_at sh k) (entry_bytes (entry_of x)) ≡ bytes_of s (set ns X.seq Y) ++ rest
+  entry_written on k sh x p r m lt c e =
       let count : k ≡ length (map entry_of X.held) = m ∙ sym (length-map X.held entry_of) in
-      (λ i. sets (sets (here i) (place i) (headerBytes (head i))) (p i + entry_at (r i) (count i)) (entryBytes (entry_of x)))
-      ∙ all-entry s before (node_of X) (node_of Y) after rest X.seq number (entry_of x) (omega (arith, length-map X.held entry_of))
-      (ap (map childOf) c) (sym (map-append entry_of X.held (x ∷ [])) ∙ ap (map entry_of) e)
+      (λ i. sets (sets (here i) (place i) (header_bytes (head i))) (p i + entry_at (r i) (count i)) (entry_bytes (entry_of x)))
+      ∙ all_entry s before (node_of X) (node_of Y) after rest X.seq number (entry_of x) (omega (arith, length-map X.held entry_of))
+      (ap (map child_of) c) (sym (map-append entry_of X.held (x ∷ [])) ∙ ap (map entry_of) e)
       ∙ there
 
 -- ---- as many nodes as numbers
 
-length-seqs : (ns : List Node) → length (seqs ns) ≡ length ns
-length-seqs [] = refl
-length-seqs (n ∷ ns) = ap suc (length-seqs ns)
+length_seqs : (ns : List Node) → length (seqs ns) ≡ length ns
+length_seqs [] = refl
+length_seqs (n ∷ ns) = ap suc (length_seqs ns)
 
-length-upto : (k : ℕ) → length (upto k) ≡ k
-length-upto zero = refl
-length-upto (suc k) = length-append (upto k) (k ∷ []) ∙ omega (arith, length-upto k)
+length_upto : (k : ℕ) → length (upto k) ≡ k
+length_upto zero = refl
+length_upto (suc k) = length-append (upto k) (k ∷ []) ∙ omega (arith, length_upto k)
 
-pub many-nodes : (q : ℕ) (ns : List Node) → seqs ns ≡ upto q → length ns ≡ q
-many-nodes q ns e = sym (length-seqs ns) ∙ (ap length e ∙ length-upto q)
+pub many_nodes : (q : ℕ) (ns : List Node) → seqs ns ≡ upto q → length ns ≡ q
+many_nodes q ns e = sym (length_seqs ns) ∙ (ap length e ∙ length_upto q)
 
-pub length-bytes : (s : Shape) (q : ℕ) (ns : List Node) → length ns ≡ q → length (bytes_of s ns) ≡ q * nodeSize s
-length-bytes s q ns e = length-all s (map node_of ns) ∙ ap (λ (z : ℕ). z * nodeSize s) (length-map ns node_of ∙ e)
+pub length_bytes : (s : Shape) (q : ℕ) (ns : List Node) → length ns ≡ q → length (bytes_of s ns) ≡ q * node_size s
+length_bytes s q ns e = length_all s (map node_of ns) ∙ ap (λ (z : ℕ). z * node_size s) (length-map ns node_of ∙ e)
 
 -- ---- a new node behind the last, in the buffer b as it came
 
-pub node-appended : (s : Shape) (q : ℕ) (b : List ℕ) (ns : List Node) (Y : Node) (c : List ℕ) (at : ℕ) (bs : List ℕ) → c ≡ bytes_of s ns ++ drop (q * nodeSize s) b → length ns ≡ q → q < s.n
-    → s.n * nodeSize s ≤ length b → at ≡ q * nodeSize s → bs ≡ encode s (node_of Y) → sets c at bs ≡ bytes_of s (ns ++ Y ∷ []) ++ drop (suc q * nodeSize s) b
-node-appended s q b ns Y c at bs e l lt room p g =
-    let fits : nodeSize s ≤ length (drop (q * nodeSize s) b) = omega (arith, length-drop (q * nodeSize s) b, mul-le-mul_right (nodeSize s) lt, suc-mul q (nodeSize s)) in
-    let next : q * nodeSize s + nodeSize s ≡ suc q * nodeSize s = sym (suc-mul q (nodeSize s)) in
+pub node_appended : (s : Shape) (q : ℕ) (b : List ℕ) (ns : List Node) (Y : Node) (c : List ℕ) (at : ℕ) (bs : List ℕ) → c ≡ bytes_of s ns ++ drop (q * node_size s) b → length ns ≡ q → q < s.n
+    → s.n * node_size s ≤ length b → at ≡ q * node_size s → bs ≡ encode s (node_of Y) → sets c at bs ≡ bytes_of s (ns ++ Y ∷ []) ++ drop (suc q * node_size s) b
+node_appended s q b ns Y c at bs e l lt room p g =
+    let fits : node_size s ≤ length (drop (q * node_size s) b) = omega (arith, length-drop (q * node_size s) b, mul-le-mul_right (node_size s) lt, suc-mul q (node_size s)) in
+    let next : q * node_size s + node_size s ≡ suc q * node_size s = sym (suc-mul q (node_size s)) in
     (λ i. sets (e i) (p i) (g i))
-    ∙ all_append s (map node_of ns) (node_of Y) (drop (q * nodeSize s) b) q (length-map ns node_of ∙ l) fits
-    ∙ ap (λ (z : List L.Node). encodeAll s z ++ drop (nodeSize s) (drop (q * nodeSize s) b)) (sym (map-append node_of ns (Y ∷ [])))
-    ∙ ap (λ (z : List ℕ). bytes_of s (ns ++ Y ∷ []) ++ z) (drop-drop (nodeSize s) (q * nodeSize s) b ∙ ap (λ (z : ℕ). drop z b) next)
+    ∙ all_append s (map node_of ns) (node_of Y) (drop (q * node_size s) b) q (length-map ns node_of ∙ l) fits
+    ∙ ap (λ (z : List L.Node). encode_all s z ++ drop (node_size s) (drop (q * node_size s) b)) (sym (map-append node_of ns (Y ∷ [])))
+    ∙ ap (λ (z : List ℕ). bytes_of s (ns ++ Y ∷ []) ++ z) (drop-drop (node_size s) (q * node_size s) b ∙ ap (λ (z : ℕ). drop z b) next)
 
 -- ---- a node's stretch of the bytes
 
-pub node-bytes : (s : Shape) (ns : List Node) (rest : List ℕ) (i : ℕ) → i < length ns
-    → take (nodeSize s) (drop (i * nodeSize s) (bytes_of s ns ++ rest)) ≡ encode s (node_of (get_or ns i blank))
-node-bytes s ns rest i lt =
+pub node_bytes : (s : Shape) (ns : List Node) (rest : List ℕ) (i : ℕ) → i < length ns
+    → take (node_size s) (drop (i * node_size s) (bytes_of s ns ++ rest)) ≡ encode s (node_of (get_or ns i blank))
+node_bytes s ns rest i lt =
     let ms = map node_of ns in
     let lt' : i < length ms = omega (arith, length-map ns node_of) in
     let X = get_or ms i (node_of blank) in
-    let Q = encodeAll s (drop (suc i) ms) ++ rest in
-    ap (λ (z : List ℕ). take (nodeSize s) (drop (i * nodeSize s) z)) (all-around s ms i (node_of blank) rest lt')
-    ∙ ap (take (nodeSize s)) (drop_at (encodeAll s (take i ms)) (encode s X ++ Q) (i * nodeSize s) (length_before s ms i lt'))
-    ∙ take_at (encode s X) Q (nodeSize s) (length-encode s X)
+    let Q = encode_all s (drop (suc i) ms) ++ rest in
+    ap (λ (z : List ℕ). take (node_size s) (drop (i * node_size s) z)) (all_around s ms i (node_of blank) rest lt')
+    ∙ ap (take (node_size s)) (drop_at (encode_all s (take i ms)) (encode s X ++ Q) (i * node_size s) (length_before s ms i lt'))
+    ∙ take_at (encode s X) Q (node_size s) (length_encode s X)
     ∙ ap (encode s) (get_or-map node_of ns i blank)

@@ -13,7 +13,7 @@ use Rattle.record.specs.Record.{History}
 use Rattle.record.specs.Refusals.{number_of}
 use Rattle.record.specs.Sound as S
 use Rattle.transient.specs.Transient as T
-use Rattle.questions.specs.Single.{singleOf}
+use Rattle.questions.specs.Single.{single_of}
 use Rattle.full_question.specs.Full.{full_of}
 use Rattle.model.specs.State.{null}
 use Rattle.model.specs.Transient as M
@@ -23,10 +23,10 @@ use Rattle.model.specs.Nodes.{∞, standing}
 use Rattle.model.specs.Questions as Q
 use Rattle.model.specs.Refusals as R
 use Rattle.model.specs.Theorems.{Run, Allowed, Calls64, left}
-use Rattle.represents.specs.Histories.{ongoingOf}
+use Rattle.represents.specs.Histories.{ongoing_of}
 use Rattle.represents.specs.Mirrors.{Mirrors}
-use Rattle.represents.proofs.OneAnswered.{single-answered}
-use Rattle.represents.proofs.AllAnswered.{full-answered}
+use Rattle.represents.proofs.OneAnswered.{single_answered}
+use Rattle.represents.proofs.AllAnswered.{full_answered}
 
 abbrev pub r : Run
 r = record { shape = record { K = 1; C = 2 }; room = 1; entries = 1; start = 0; attributes = 1; calls = change 5 0 (set (pos 7)) ∷ [] }
@@ -70,9 +70,9 @@ pub values : Calls64 r.calls
 values = (omega arith, tt)
 
 pub mirrors : Mirrors r h nodes table
-unfolding S.sound S.shapeAllowed S.numbersSound S.branchSound S.lastEndSound S.startsFall S.levelsSound S.levelSound S.apart S.all S.longEnough
-    L.nodeSize L.encodeAll L.encode L.headerBytes L.bounds L.counts L.childBytes L.entryBytes L.body L.padded le num T.ongoingAt
-    M.history M.step M.stores R.accepted R.refuse R.refuseStated R.limits B.onto B.insert B.build standing
+unfolding S.sound S.shape_allowed S.numbers_sound S.branch_sound S.last_end_sound S.starts_fall S.levels_sound S.level_sound S.apart S.all S.long_enough
+    L.node_size L.encode_all L.encode L.header_bytes L.bounds L.counts L.child_bytes L.entry_bytes L.body L.padded le num T.ongoing_at
+    M.history M.step M.stores R.accepted R.refuse R.refuse_stated R.limits B.onto B.insert B.build standing
 mirrors = record {
   whole = refl;
   long = refl;
@@ -92,7 +92,7 @@ mirrors = record {
   entries = λ e. entry;
 }
   where
-    entry : (q : ℕ) → q < 1 → T.ongoingAt table q ≡ ongoingOf ((left r).table q)
+    entry : (q : ℕ) → q < 1 → T.ongoing_at table q ≡ ongoing_of ((left r).table q)
     entry zero lt = refl
     entry (suc q) lt = absurd (omega arith)
 
@@ -102,21 +102,21 @@ abbrev zeroth : Quark
 zeroth = record { 0 = 0 }
 
 -- at 3: null from 0 to 4, from the one node
-pub at-three : ((singleOf h 3 zeroth nodes table).nodes ≡ 1) × ((singleOf h 3 zeroth nodes table).entry ≡ record { quark = zeroth; kind = 0; start = 0; end = 4; value = pos 0 })
-unfolding M.history M.step M.stores R.accepted R.refuse R.refuseStated R.limits B.onto B.insert B.build standing Q.single
-at-three = let a = single-answered allowed values mirrors 3 zeroth in (a.nodes refl, head-eq_of_cons-eq (a.entry refl))
+pub at_three : ((single_of h 3 zeroth nodes table).nodes ≡ 1) × ((single_of h 3 zeroth nodes table).entry ≡ record { quark = zeroth; kind = 0; start = 0; end = 4; value = pos 0 })
+unfolding M.history M.step M.stores R.accepted R.refuse R.refuse_stated R.limits B.onto B.insert B.build standing Q.single
+at_three = let a = single_answered allowed values mirrors 3 zeroth in (a.nodes refl, head-eq_of_cons-eq (a.entry refl))
 
 -- at 5: 7 from 5 on, from the table, with no node entered
-pub at_five : ((singleOf h 5 zeroth nodes table).nodes ≡ 0) × ((singleOf h 5 zeroth nodes table).entry ≡ record { quark = zeroth; kind = 1; start = 5; end = ∞; value = pos 7 })
-unfolding M.history M.step M.stores R.accepted R.refuse R.refuseStated R.limits B.onto B.insert B.build standing Q.single
-at_five = let a = single-answered allowed values mirrors 5 zeroth in (a.nodes refl, head-eq_of_cons-eq (a.entry refl))
+pub at_five : ((single_of h 5 zeroth nodes table).nodes ≡ 0) × ((single_of h 5 zeroth nodes table).entry ≡ record { quark = zeroth; kind = 1; start = 5; end = ∞; value = pos 7 })
+unfolding M.history M.step M.stores R.accepted R.refuse R.refuse_stated R.limits B.onto B.insert B.build standing Q.single
+at_five = let a = single_answered allowed values mirrors 5 zeroth in (a.nodes refl, head-eq_of_cons-eq (a.entry refl))
 
 -- at 6: "6 .. in a query, before start or after latest"
-pub at-six : number_of (singleOf h 6 zeroth nodes table).refusal ≡ 6
-unfolding M.history M.step M.stores R.accepted R.refuse R.refuseStated R.limits B.onto B.insert B.build standing
-at-six = (single-answered allowed values mirrors 6 zeroth).number
+pub at_six : number_of (single_of h 6 zeroth nodes table).refusal ≡ 6
+unfolding M.history M.step M.stores R.accepted R.refuse R.refuse_stated R.limits B.onto B.insert B.build standing
+at_six = (single_answered allowed values mirrors 6 zeroth).number
 
 -- the full question at 3 walks too
-pub full-at-three : (full_of h 3 nodes table 32).nodes ≡ 1
-unfolding M.history M.step M.stores R.accepted R.refuse R.refuseStated R.limits B.onto B.insert B.build standing Q.full
-full-at-three = (full-answered allowed values mirrors 3 (replicate 32 0) (omega arith)).nodes refl
+pub full_at_three : (full_of h 3 nodes table 32).nodes ≡ 1
+unfolding M.history M.step M.stores R.accepted R.refuse R.refuse_stated R.limits B.onto B.insert B.build standing Q.full
+full_at_three = (full_answered allowed values mirrors 3 (replicate 32 0) (omega arith)).nodes refl

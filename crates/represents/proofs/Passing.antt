@@ -8,26 +8,26 @@ use lib.Dec.{leb, eqb}
 use lib.ListN.{length, get_or}
 use borrow.Author.Tests.{eqb-true, eq-eqb, lt-ltb, le-leb}
 use Rattle.layout.specs.declared.Header.{Header}
-use Rattle.layout.specs.Layout.{entrySize, read_entry}
-use Rattle.transient.specs.Transient.{stateSound}
+use Rattle.layout.specs.Layout.{entry_size, read_entry}
+use Rattle.transient.specs.Transient.{state_sound}
 use Rattle.walk.specs.declared.View.{View}
 use Rattle.walk.specs.declared.Walk.{Walk}
 use Rattle.walk.specs.declared.Rule.TheVariants.{Kept}
 use Rattle.walk.specs.Rules as Q
-use Rattle.walk.specs.Rules.{r1, r2, r3, r4, r5, broken, entrySound}
-use Rattle.walk.specs.Walk.{allSound}
+use Rattle.walk.specs.Rules.{r1, r2, r3, r4, r5, broken, entry_sound}
+use Rattle.walk.specs.Walk.{all_sound}
 use Rattle.model.specs.State.{State, null, int, kind_of, value_of}
 use Rattle.model.specs.Transient.{Interval}
 use Rattle.model.specs.Nodes.{∞, Node, blank}
 use Rattle.model.specs.Questions.{holds}
 use Rattle.model.specs.Invariant.{Inside}
 use Rattle.model.specs.Rules.{Sits, Known}
-use Rattle.represents.specs.Represents.{shape_of, headerOf, entry_of}
+use Rattle.represents.specs.Represents.{shape_of, header_of, entry_of}
 use Rattle.represents.specs.Readable.{Readable}
 use Rattle.represents.proofs.Holding.{HeldAt}
 
 -- "An open node holds every t from its start": its end is 2^64-1, which no time passes
-pub holds_same : (t : ℕ) (m : Node) → t ≤ ∞ → Q.holds t (headerOf m) ≡ holds t m
+pub holds_same : (t : ℕ) (m : Node) → t ≤ ∞ → Q.holds t (header_of m) ≡ holds t m
 unfolding Q.holds
 holds_same t m h = go (eqb m.end ∞) refl
   where
@@ -37,22 +37,22 @@ holds_same t m h = go (eqb m.end ∞) refl
 
 -- ---- R6
 
-pub state-passes : (s : State) → stateSound (kind_of s) (value_of s) ≡ true
-unfolding stateSound
-state-passes null = refl
-state-passes (int z) = refl
+pub state_passes : (s : State) → state_sound (kind_of s) (value_of s) ≡ true
+unfolding state_sound
+state_passes null = refl
+state_passes (int z) = refl
 
-entry-passes : (n : ℕ) (h : Header) (x : Interval) → x.quark < n → h.start ≤ x.start → x.start ≤ x.end → x.end ≤ h.end → entrySound n h (entry_of x) ≡ true
-unfolding entrySound
-entry-passes n h x a b c d =
-    rw (lt-ltb x.quark n a, state-passes x.state, le-leb x.start x.end c, le-leb h.start x.start b, le-leb x.end h.end d)
+entry_passes : (n : ℕ) (h : Header) (x : Interval) → x.quark < n → h.start ≤ x.start → x.start ≤ x.end → x.end ≤ h.end → entry_sound n h (entry_of x) ≡ true
+unfolding entry_sound
+entry_passes n h x a b c d =
+    rw (lt-ltb x.quark n a, state_passes x.state, le-leb x.start x.end c, le-leb h.start x.start b, le-leb x.end h.end d)
 
-pub held-passes : (l : List ℕ) (n : ℕ) (h : Header) (p : ℕ) (xs : List Interval) → HeldAt l p xs → Known n xs → Inside h.start h.end xs → allSound l n h p (length xs) true ≡ true
-unfolding allSound
-held-passes l n h p [] at k i = refl
-held-passes l n h p (x ∷ xs) at k i =
-    let e : entrySound n h (read_entry l p) ≡ true = ap (entrySound n h) at.0 ∙ entry-passes n h x k.0 i.0 i.1 i.2 in
-    ap (λ (b : Bool). allSound l n h (p + entrySize) (length xs) b) e ∙ held-passes l n h (p + entrySize) xs at.1 k.1 i.3
+pub held_passes : (l : List ℕ) (n : ℕ) (h : Header) (p : ℕ) (xs : List Interval) → HeldAt l p xs → Known n xs → Inside h.start h.end xs → all_sound l n h p (length xs) true ≡ true
+unfolding all_sound
+held_passes l n h p [] at k i = refl
+held_passes l n h p (x ∷ xs) at k i =
+    let e : entry_sound n h (read_entry l p) ≡ true = ap (entry_sound n h) at.0 ∙ entry_passes n h x k.0 i.0 i.1 i.2 in
+    ap (λ (b : Bool). all_sound l n h (p + entry_size) (length xs) b) e ∙ held_passes l n h (p + entry_size) xs at.1 k.1 i.3
 
 -- ---- R1 to R5
 
@@ -61,9 +61,9 @@ pub record Due (ns : List Node) (n : ℕ) (w : Walk) : Type 0 where
   pub go : w.go ≡ true
   pub place : w.place.0 < length ns
   pub level : (get_or ns w.place.0 blank).level ≡ n
-  pub fifth : r5 w (headerOf (get_or ns w.place.0 blank)) ≡ true
+  pub fifth : r5 w (header_of (get_or ns w.place.0 blank)) ≡ true
 
-third : (m : Node) → m.start ≤ m.end → r3 (headerOf m) ≡ true
+third : (m : Node) → m.start ≤ m.end → r3 (header_of m) ≡ true
 unfolding r3
 third m h = rw (le-leb m.start m.end h) (go (eqb m.end ∞))
   where
@@ -71,7 +71,7 @@ third m h = rw (le-leb m.start m.end h) (go (eqb m.end ∞))
     go true = refl
     go false = refl
 
-fourth : (v : View) (ns : List Node) (m : Node) → Sits (shape_of v.shape) ns m → r4 v (headerOf m) ≡ true
+fourth : (v : View) (ns : List Node) (m : Node) → Sits (shape_of v.shape) ns m → r4 v (header_of m) ≡ true
 unfolding r4
 fourth v ns m s = rw (le-leb (length m.held) v.shape.k s.intervals, le-leb (length m.children) v.shape.c s.children) (go (eqb m.level 0) refl)
   where
@@ -79,16 +79,16 @@ fourth v ns m s = rw (le-leb (length m.held) v.shape.k s.intervals, le-leb (leng
     go true e = rw (s.leaf (eqb-true m.level 0 e))
     go false e = refl
 
-none-broken : (v : View) (w : Walk) (n : ℕ) (h : Header) → r1 v w h ≡ true → r2 n h ≡ true → r3 h ≡ true → r4 v h ≡ true → r5 w h ≡ true → broken v w n h ≡ Kept
+none_broken : (v : View) (w : Walk) (n : ℕ) (h : Header) → r1 v w h ≡ true → r2 n h ≡ true → r3 h ≡ true → r4 v h ≡ true → r5 w h ≡ true → broken v w n h ≡ Kept
 unfolding broken
-none-broken v w n h a b c d e = rw (a, b, c, d, e)
+none_broken v w n h a b c d e = rw (a, b, c, d, e)
 
-pub passes : {v : View} {l : List ℕ} {ns : List Node} (r : Readable v l ns) (n : ℕ) (w : Walk) (d : Due ns n w) → broken v w n (headerOf (get_or ns w.place.0 blank)) ≡ Kept
+pub passes : {v : View} {l : List ℕ} {ns : List Node} (r : Readable v l ns) (n : ℕ) (w : Walk) (d : Due ns n w) → broken v w n (header_of (get_or ns w.place.0 blank)) ≡ Kept
 unfolding r1 r2
 passes {v} {l} {ns} r n w d =
     let m = get_or ns w.place.0 blank in
     let s = r.sits w.place.0 d.place in
-    let one : r1 v w (headerOf m) ≡ true =
+    let one : r1 v w (header_of m) ≡ true =
     rw (eq-eqb m.seq w.place.0 s.0, lt-ltb m.seq v.used (omega (arith, s.0, r.used, d.place)))
     in
-    none-broken v w n (headerOf m) one (eq-eqb m.level n d.level) (third m s.1.ordered) (fourth v ns m s.1) d.fifth
+    none_broken v w n (header_of m) one (eq-eqb m.level n d.level) (third m s.1.ordered) (fourth v ns m s.1) d.fifth

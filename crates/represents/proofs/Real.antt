@@ -4,13 +4,13 @@ use mathlib.Core.Bool.{false}
 use mathlib.Core.Path.{◌≡◌}
 use mathlib.Core.List.{List}
 use native.Mathlib.Omega.{arith}
-use Rattle.record.specs.Sound.{lastTime}
+use Rattle.record.specs.Sound.{last_time}
 use Rattle.model.specs.State.{Within64}
 use Rattle.model.specs.Transient as M
 use Rattle.model.specs.Transient.{Call}
 use Rattle.model.specs.Theorems.{left, taken, Calls64}
-use Rattle.model.proofs.Bounded.{table-within}
-use Rattle.model.proofs.Legal.{Legal, legal-accepted}
+use Rattle.model.proofs.Bounded.{table_within}
+use Rattle.model.proofs.Legal.{Legal, legal_accepted}
 use Rattle.model.proofs.Running.{running}
 use Rattle.model.proofs.Storable.{Storable, storable}
 use Rattle.represents.specs.Histories.{Opening, run_of}
@@ -21,13 +21,13 @@ pub record Real (l : M.History) : Type 0 where
   pub begun : l.finished ≡ false → (q : ℕ) → (l.start ≤ (l.table q).start) × ((l.table q).start ≤ l.latest)
   pub values : (q : ℕ) → Within64 (l.table q).state
 
-module _ (p : Opening) (cs : List Call) (begins : p.start ≤ lastTime) where
+module _ (p : Opening) (cs : List Call) (begins : p.start ≤ last_time) where
   pub legal : Legal p.start p.attributes (taken (run_of p cs))
-  legal = let r = run_of p cs in legal-accepted r.shape r.room r.entries r.start r.attributes cs (omega arith)
+  legal = let r = run_of p cs in legal_accepted r.shape r.room r.entries r.start r.attributes cs (omega arith)
 
   pub real : Calls64 cs → Real (left (run_of p cs))
   real fit = let r = run_of p cs in record {
     stored = storable p.start p.attributes (taken r) legal;
     begun = λ d q. let f = (running p.start p.attributes (taken r) legal d).each q in (f.begun, f.upto);
-    values = table-within r.shape r.room r.entries r.start r.attributes cs fit;
+    values = table_within r.shape r.room r.entries r.start r.attributes cs fit;
   }

@@ -3,7 +3,7 @@ use Prim.Native.Nat.{ℕ, ◌+◌}
 use mathlib.Core.List.{List}
 use Rattle.layout.specs.declared.Shape.{Shape}
 use Rattle.record.specs.Record.{History}
-use Rattle.record.specs.Moves.{atTime, withAttribute}
+use Rattle.record.specs.Moves.{at_time, with_attribute}
 use Rattle.build.specs.Moves.{held}
 use Rattle.model.specs.Build.{Tree}
 use Rattle.represents.specs.Represents.{Represents}
@@ -47,11 +47,11 @@ module _ (s : Shape) (t : Tree) (h : History) (b : List ℕ) (r : Represents s t
   }
 
   -- "a change at time t makes it t"
-  pub at-time : (time : ℕ) → Represents s t (held (atTime h time) b)
-  unfolding atTime
-  at-time time = unseen time h.attributes
+  pub at_time_lem : (time : ℕ) → Represents s t (held (at_time h time) b)
+  unfolding at_time
+  at_time_lem time = unseen time h.attributes
 
   -- one more attribute
-  pub with-attribute : Represents s t (held (withAttribute h) b)
-  unfolding withAttribute
-  with-attribute = unseen h.latest (h.attributes + 1)
+  pub with_attribute_lem : Represents s t (held (with_attribute h) b)
+  unfolding with_attribute
+  with_attribute_lem = unseen h.latest (h.attributes + 1)

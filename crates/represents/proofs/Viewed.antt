@@ -6,47 +6,47 @@ use native.Mathlib.Omega.{arith}
 use lib.ListN.{length}
 use lib.Seq.{sets}
 use borrow.Author.Tests.{le-leb, lt-leb}
-use Rattle.layout.specs.Layout.{entryBytes, spread}
+use Rattle.layout.specs.Layout.{entry_bytes, spread}
 use Rattle.record.specs.Record.{History}
 use Rattle.record.specs.declared.Refusal.TheVariants.{Nothing}
 use Rattle.record.specs.Refusals.{number_of}
 use Rattle.walk.specs.View.{view_of}
-use Rattle.questions.specs.Single.{singleAnswer, viewSingle}
-use Rattle.full_question.specs.Full.{fullEntries, walkedRefusal, walkedFull, walkedWritten}
+use Rattle.questions.specs.Single.{single_answer, view_single}
+use Rattle.full_question.specs.Full.{full_entries, walked_refusal, walked_full, walked_written}
 use Rattle.model.specs.Questions.{full}
-use Rattle.model.specs.Refusals.{refuseSingle}
+use Rattle.model.specs.Refusals.{refuse_single}
 use Rattle.model.specs.Theorems.{Run, Allowed, left, Calls64}
 use Rattle.represents.specs.Represents.{entry_of}
 use Rattle.represents.specs.Mirrors.{Mirrors}
 use Rattle.represents.specs.Answered.{SingleAnswered}
-use Rattle.represents.proofs.Told.{fine, walk-keeps, walk-enters, tells}
-use Rattle.represents.proofs.OneAnswered.{answer-same}
-use Rattle.represents.proofs.AllAnswered.{attributes-same, entries-fine, each-alone, entries-same}
+use Rattle.represents.proofs.Told.{fine, walk_keeps, walk_enters, tells}
+use Rattle.represents.proofs.OneAnswered.{answer_same}
+use Rattle.represents.proofs.AllAnswered.{attributes_same, entries_fine, each_alone, entries_same}
 
 module _ {r : Run} {h : History} {nodes table : List ℕ} (allowed : Allowed r) (values : Calls64 r.calls) (μ : Mirrors r h nodes table)
     (t : ℕ) (from : (left r).start ≤ t) (to : t ≤ (left r).latest) where
-  viewed : (q : ℕ) → q < (left r).attributes → viewSingle (view_of h) t q nodes table ≡ singleAnswer (view_of h) t q nodes table
-  unfolding viewSingle
+  viewed : (q : ℕ) → q < (left r).attributes → view_single (view_of h) t q nodes table ≡ single_answer (view_of h) t q nodes table
+  unfolding view_single
   viewed q lt = rw (fine allowed values μ q lt, (tells allowed values μ t from to q lt).passes)
 
-  pub view-single : (q : ℕ) → q < (left r).attributes → SingleAnswered r q t (viewSingle (view_of h) t q nodes table)
+  pub view_single_lem : (q : ℕ) → q < (left r).attributes → SingleAnswered r q t (view_single (view_of h) t q nodes table)
   unfolding number_of
-  view-single q lt =
-      let z : refuseSingle (left r) q t ≡ 0 = rw (lt-leb (left r).attributes q lt, le-leb (left r).start t from, le-leb t (left r).latest to) in
-      let s = answer-same allowed values μ q t lt from to in
+  view_single_lem q lt =
+      let z : refuse_single (left r) q t ≡ 0 = rw (lt-leb (left r).attributes q lt, le-leb (left r).start t from, le-leb t (left r).latest to) in
+      let s = answer_same allowed values μ q t lt from to in
       rw (viewed q lt) (record { number = ap number_of s.refusal ∙ sym z; nodes = λ y. s.count; entry = λ y. s.entry; refused = λ y. absurd (y z) })
 
-  passes : walkedRefusal (view_of h) t nodes table ≡ Nothing
-  unfolding walkedRefusal
-  passes = rw (entries-fine allowed values μ t from to, walk-keeps allowed values μ t from to, each-alone allowed values μ t from to)
+  passes : walked_refusal (view_of h) t nodes table ≡ Nothing
+  unfolding walked_refusal
+  passes = rw (entries_fine allowed values μ t from to, walk_keeps allowed values μ t from to, each_alone allowed values μ t from to)
 
-  pub view-full : walkedFull (view_of h) t nodes table ≡ record { refusal = Nothing; nodes = length (full r.shape (left r) t).entered }
-  unfolding walkedFull full
-  view-full = rw (passes, walk-enters allowed values μ t from to)
+  pub view_full : walked_full (view_of h) t nodes table ≡ record { refusal = Nothing; nodes = length (full r.shape (left r) t).entered }
+  unfolding walked_full full
+  view_full = rw (passes, walk_enters allowed values μ t from to)
 
   -- the entries, from index at on
-  pub view-written : (at : ℕ) (b : List ℕ) → walkedWritten (view_of h) t nodes table at b ≡ sets b at (spread entryBytes (map entry_of (full r.shape (left r) t).found))
-  unfolding walkedWritten full
-  view-written at b =
-      rw passes (ap (λ (n : ℕ). sets b at (fullEntries (view_of h) t nodes table 0 n)) (attributes-same allowed values μ)
-      ∙ ap (sets b at) (entries-same allowed values μ t from to (left r).attributes (omega arith)))
+  pub view_written : (at : ℕ) (b : List ℕ) → walked_written (view_of h) t nodes table at b ≡ sets b at (spread entry_bytes (map entry_of (full r.shape (left r) t).found))
+  unfolding walked_written full
+  view_written at b =
+      rw passes (ap (λ (n : ℕ). sets b at (full_entries (view_of h) t nodes table 0 n)) (attributes_same allowed values μ)
+      ∙ ap (sets b at) (entries_same allowed values μ t from to (left r).attributes (omega arith)))

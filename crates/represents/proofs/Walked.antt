@@ -11,20 +11,20 @@ use lib.ListN.{length, get_or}
 use borrow.Author.Tests.{eq-eqb, ne_eqb}
 use Rattle.layout.specs.declared.Shape.{Shape}
 use Rattle.layout.specs.declared.Header.{Header}
-use Rattle.layout.specs.Layout.{entrySize, nodeSize, entry_at, read_entry}
-use Rattle.record.proofs.Room.{node-inside}
+use Rattle.layout.specs.Layout.{entry_size, node_size, entry_at, read_entry}
+use Rattle.record.proofs.Room.{node_inside}
 use Rattle.walk.specs.declared.View.{View}
 use Rattle.walk.specs.declared.Walk.{Walk}
 use Rattle.walk.specs.declared.Rule.TheVariants.{Kept}
 use Rattle.walk.specs.Rules as Q
 use Rattle.walk.specs.Rules.{r5}
 use Rattle.walk.specs.Walk as W
-use Rattle.walk.specs.Walk.{rootOf, ended, counted, step, walk_of}
-use Rattle.questions.specs.Found.{many, more, noted, look, lookIn, lookAt, found, foundOf}
+use Rattle.walk.specs.Walk.{root_of, ended, counted, step, walk_of}
+use Rattle.questions.specs.Found.{many, more, noted, look, look_in, look_at, found, found_of}
 use Rattle.model.specs.Transient.{Interval}
 use Rattle.model.specs.Nodes.{∞, Node, blank, intervals}
 use Rattle.model.specs.Questions.{only, covers, last_at, onward, chase}
-use Rattle.model.proofs.Lists.{only-append}
+use Rattle.model.proofs.Lists.{only_append}
 use Rattle.represents.specs.Represents.{entry_of}
 use Rattle.represents.specs.Readable.{Readable}
 use Rattle.represents.proofs.Holding.{HeldAt, at}
@@ -36,54 +36,54 @@ use Rattle.represents.proofs.Taken.{Steps, ends, goes, steps}
 -- what the number s says of the intervals xs: nothing, where in the first 2^32 bytes the one entry stands, or many
 abbrev pub Found : List ℕ → ℕ → List Interval → Type 0
 Found l s [] = s ≡ 0
-Found l s (x ∷ []) = (p : ℕ) × (s ≡ p + 1) × (p + entrySize ≤ 2 ^ 32) × (read_entry l p ≡ entry_of x)
+Found l s (x ∷ []) = (p : ℕ) × (s ≡ p + 1) × (p + entry_size ≤ 2 ^ 32) × (read_entry l p ≡ entry_of x)
 Found l s (x ∷ y ∷ ys) = s ≡ many
 
-more-found : (l : List ℕ) (s p : ℕ) (x : Interval) (ys : List Interval) → p + entrySize ≤ 2 ^ 32 → read_entry l p ≡ entry_of x → Found l s ys
+more_found : (l : List ℕ) (s p : ℕ) (x : Interval) (ys : List Interval) → p + entry_size ≤ 2 ^ 32 → read_entry l p ≡ entry_of x → Found l s ys
     → Found l (more s p) (ys ++ x ∷ [])
 unfolding more
-more-found l s p x [] i e f = (p, rw (eq-eqb s 0 f), i, e)
-more-found l s p x (y ∷ []) i e f = rw (ne_eqb s 0 (λ z. omega (arith, f.1)))
-more-found l s p x (y ∷ z ∷ ys) i e f = rw (ne_eqb s 0 (λ z. omega arith))
+more_found l s p x [] i e f = (p, rw (eq-eqb s 0 f), i, e)
+more_found l s p x (y ∷ []) i e f = rw (ne_eqb s 0 (λ z. omega (arith, f.1)))
+more_found l s p x (y ∷ z ∷ ys) i e f = rw (ne_eqb s 0 (λ z. omega arith))
 
-look-found : (l : List ℕ) (q t p s : ℕ) (xs ys : List Interval) → p + entrySize * length xs ≤ 2 ^ 32 → HeldAt l p xs → Found l s ys
+look_found : (l : List ℕ) (q t p s : ℕ) (xs ys : List Interval) → p + entry_size * length xs ≤ 2 ^ 32 → HeldAt l p xs → Found l s ys
     → Found l (look l q t p (length xs) s) (ys ++ only (covers q t) xs)
 unfolding look noted Q.covers
-look-found l q t p s [] ys i h f = subst (λ (z : List Interval). Found l s z) (sym (append-nil ys)) f
-look-found l q t p s (x ∷ xs) ys i h f =
-    subst (λ (b : Bool). Found l (look l q t (p + entrySize) (length xs) (cond b (more s p) s)) (ys ++ only (covers q t) (x ∷ xs))) (sym same)
+look_found l q t p s [] ys i h f = subst (λ (z : List Interval). Found l s z) (sym (append-nil ys)) f
+look_found l q t p s (x ∷ xs) ys i h f =
+    subst (λ (b : Bool). Found l (look l q t (p + entry_size) (length xs) (cond b (more s p) s)) (ys ++ only (covers q t) (x ∷ xs))) (sym same)
     (go (covers q t x)
-    (look-found l q t (p + entrySize) (more s p) xs (ys ++ x ∷ []) (omega arith) h.1 (more-found l s p x ys (omega arith) h.0 f))
-    (look-found l q t (p + entrySize) s xs ys (omega arith) h.1 f))
+    (look_found l q t (p + entry_size) (more s p) xs (ys ++ x ∷ []) (omega arith) h.1 (more_found l s p x ys (omega arith) h.0 f))
+    (look_found l q t (p + entry_size) s xs ys (omega arith) h.1 f))
   where
     same : (eqb (read_entry l p).quark.0 q && Q.covers t (read_entry l p)) ≡ covers q t x
     same = ap (λ e. eqb e.quark.0 q && Q.covers t e) h.0
 
-    go : (b : Bool) → Found l (look l q t (p + entrySize) (length xs) (more s p)) ((ys ++ x ∷ []) ++ only (covers q t) xs)
-        → Found l (look l q t (p + entrySize) (length xs) s) (ys ++ only (covers q t) xs)
-        → Found l (look l q t (p + entrySize) (length xs) (cond b (more s p) s)) (ys ++ cond b (x ∷ only (covers q t) xs) (only (covers q t) xs))
-    go true u w = subst (λ (z : List Interval). Found l (look l q t (p + entrySize) (length xs) (more s p)) z) (append_assoc ys (x ∷ []) (only (covers q t) xs)) u
+    go : (b : Bool) → Found l (look l q t (p + entry_size) (length xs) (more s p)) ((ys ++ x ∷ []) ++ only (covers q t) xs)
+        → Found l (look l q t (p + entry_size) (length xs) s) (ys ++ only (covers q t) xs)
+        → Found l (look l q t (p + entry_size) (length xs) (cond b (more s p) s)) (ys ++ cond b (x ∷ only (covers q t) xs) (only (covers q t) xs))
+    go true u w = subst (λ (z : List Interval). Found l (look l q t (p + entry_size) (length xs) (more s p)) z) (append_assoc ys (x ∷ []) (only (covers q t) xs)) u
     go false u w = w
 
 -- ---- a walk that has ended, and one that goes on
 
-walk-ended : (l : List ℕ) (v : View) (t n : ℕ) (w : Walk) → w.go ≡ false → W.walk l v t n w ≡ w
+walk_ended : (l : List ℕ) (v : View) (t n : ℕ) (w : Walk) → w.go ≡ false → W.walk l v t n w ≡ w
 unfolding W.walk
-walk-ended l v t zero w e = refl
-walk-ended l v t (suc n) w e = rw e
+walk_ended l v t zero w e = refl
+walk_ended l v t (suc n) w e = rw e
 
-found-ended : (l : List ℕ) (v : View) (q t n : ℕ) (w : Walk) (s : ℕ) → w.go ≡ false → found l v q t n w s ≡ s
+found_ended : (l : List ℕ) (v : View) (q t n : ℕ) (w : Walk) (s : ℕ) → w.go ≡ false → found l v q t n w s ≡ s
 unfolding found
-found-ended l v q t zero w s e = refl
-found-ended l v q t (suc n) w s e = rw e
+found_ended l v q t zero w s e = refl
+found_ended l v q t (suc n) w s e = rw e
 
-walk-goes : (l : List ℕ) (v : View) (t n : ℕ) (w : Walk) → w.go ≡ true → W.walk l v t (suc n) w ≡ W.walk l v t n (step l v t n w)
+walk_goes : (l : List ℕ) (v : View) (t n : ℕ) (w : Walk) → w.go ≡ true → W.walk l v t (suc n) w ≡ W.walk l v t n (step l v t n w)
 unfolding W.walk
-walk-goes l v t n w e = ap (λ (b : Bool). cond b (W.walk l v t n (step l v t n w)) w) e
+walk_goes l v t n w e = ap (λ (b : Bool). cond b (W.walk l v t n (step l v t n w)) w) e
 
-found-goes : (l : List ℕ) (v : View) (q t n : ℕ) (w : Walk) (s : ℕ) → w.go ≡ true → found l v q t (suc n) w s ≡ found l v q t n (step l v t n w) (lookAt l v q t n w s)
+found_goes : (l : List ℕ) (v : View) (q t n : ℕ) (w : Walk) (s : ℕ) → w.go ≡ true → found l v q t (suc n) w s ≡ found l v q t n (step l v t n w) (look_at l v q t n w s)
 unfolding found
-found-goes l v q t n w s e = ap (λ (b : Bool). cond b (found l v q t n (step l v t n w) (lookAt l v q t n w s)) s) e
+found_goes l v q t n w s e = ap (λ (b : Bool). cond b (found l v q t n (step l v t n w) (look_at l v q t n w s)) s) e
 
 -- ---- the walk
 
@@ -93,56 +93,56 @@ pub record Walked (l : List ℕ) (v : View) (t n : ℕ) (w : Walk) (ms : List No
   pub entered : (W.walk l v t n w).entered ≡ w.entered + length ms
   pub finds : (q s : ℕ) (ys : List Interval) → Found l s ys → Found l (found l v q t n w s) (ys ++ only (covers q t) (intervals ms))
 
-ended-walked : (l : List ℕ) (v : View) (t n : ℕ) (w : Walk) → Walked l v t n (ended w Kept w.place) []
+ended_walked : (l : List ℕ) (v : View) (t n : ℕ) (w : Walk) → Walked l v t n (ended w Kept w.place) []
 unfolding ended
-ended-walked l v t n w =
+ended_walked l v t n w =
     let u = ended w Kept w.place in
-    let e = walk-ended l v t n u refl in
+    let e = walk_ended l v t n u refl in
     record {
       rule = ap (λ z. z.rule) e;
       entered = ap (λ z. z.entered) e ∙ omega arith;
       finds = λ q s ys f.
-          subst (λ (k : ℕ). Found l k (ys ++ [])) (sym (found-ended l v q t n u s refl)) (subst (λ (z : List Interval). Found l s z) (sym (append-nil ys)) f);
+          subst (λ (k : ℕ). Found l k (ys ++ [])) (sym (found_ended l v q t n u s refl)) (subst (λ (z : List Interval). Found l s z) (sym (append-nil ys)) f);
     }
 
-node-parts : (s : Shape) → nodeSize s ≡ 32 + 12 * s.c + 32 * s.k
-unfolding nodeSize
-node-parts s = refl
+node_parts : (s : Shape) → node_size s ≡ 32 + 12 * s.c + 32 * s.k
+unfolding node_size
+node_parts s = refl
 
 module _ {v : View} {l : List ℕ} {ns : List Node} (r : Readable v l ns) (t : ℕ) (early : t ≤ ∞) where
   -- the node that is due is looked at
   looked : (q n s : ℕ) (w : Walk) (ys : List Interval) → Due ns n w → Found l s ys
-      → Found l (lookAt l v q t n w s) (ys ++ only (covers q t) (get_or ns w.place.0 blank).held)
-  unfolding lookAt lookIn entry_at
+      → Found l (look_at l v q t n w s) (ys ++ only (covers q t) (get_or ns w.place.0 blank).held)
+  unfolding look_at look_in entry_at
   looked q n s w ys d f =
       let m = get_or ns w.place.0 blank in
-      let P = w.place.0 * nodeSize v.shape in
+      let P = w.place.0 * node_size v.shape in
       let a = at r w.place.0 d.place in
-      let room : P + entry_at v.shape 0 + entrySize * length m.held ≤ 2 ^ 32 =
-      omega (arith, node-inside w.place.0 (length ns) (nodeSize v.shape) d.place, node-parts v.shape, r.small, (r.sits w.place.0 d.place).1.intervals)
+      let room : P + entry_at v.shape 0 + entry_size * length m.held ≤ 2 ^ 32 =
+      omega (arith, node_inside w.place.0 (length ns) (node_size v.shape) d.place, node_parts v.shape, r.small, (r.sits w.place.0 d.place).1.intervals)
       in
-      subst (λ (h : Header). Found l (lookIn l v q t n h P w s) (ys ++ only (covers q t) m.held)) (sym a.header)
-      (rw (passes r n w d) (look-found l q t (P + entry_at v.shape 0) s m.held ys room a.held f))
+      subst (λ (h : Header). Found l (look_in l v q t n h P w s) (ys ++ only (covers q t) m.held)) (sym a.header)
+      (rw (passes r n w d) (look_found l q t (P + entry_at v.shape 0) s m.held ys room a.held f))
 
   one_more : (q : ℕ) (ys : List Interval) (m : Node) (ms : List Node)
       → (ys ++ only (covers q t) m.held) ++ only (covers q t) (intervals ms) ≡ ys ++ only (covers q t) (intervals (m ∷ ms))
-  one_more q ys m ms = append_assoc ys (only (covers q t) m.held) _ ∙ ap (λ (z : List Interval). ys ++ z) (sym (only-append (covers q t) m.held (intervals ms)))
+  one_more q ys m ms = append_assoc ys (only (covers q t) m.held) _ ∙ ap (λ (z : List Interval). ys ++ z) (sym (only_append (covers q t) m.held (intervals ms)))
 
   -- after a step
   after : (n : ℕ) (w u : Walk) (ms : List Node) → ((u : Walk) → Due ns (get_or ns u.place.0 blank).level u → suc (get_or ns u.place.0 blank).level ≡ n → Walked l v t n u (chase n t ns u.place.0))
       → Steps r t early n w ms u → Walked l v t n u ms × (u.entered ≡ w.entered + 1)
   unfolding ended counted
-  after n w u ms ih (ends e) = (subst (λ (z : List Node). Walked l v t n (ended (counted w) Kept w.place) z) (sym e) (ended-walked l v t n (counted w)), refl)
+  after n w u ms ih (ends e) = (subst (λ (z : List Node). Walked l v t n (ended (counted w) Kept w.place) z) (sym e) (ended_walked l v t n (counted w)), refl)
   after n w u ms ih (goes _ level d count e) = (subst (λ (z : List Node). Walked l v t n u z) (sym e) (ih u d level), count)
 
-  node-walked : (n : ℕ) (w : Walk) (ms : List Node) → Due ns n w → Walked l v t n (step l v t n w) ms × ((step l v t n w).entered ≡ w.entered + 1)
+  node_walked : (n : ℕ) (w : Walk) (ms : List Node) → Due ns n w → Walked l v t n (step l v t n w) ms × ((step l v t n w).entered ≡ w.entered + 1)
       → Walked l v t (suc n) w (get_or ns w.place.0 blank ∷ ms)
-  node-walked n w ms d a = let m = get_or ns w.place.0 blank in let g = walk-goes l v t n w d.go in record {
+  node_walked n w ms d a = let m = get_or ns w.place.0 blank in let g = walk_goes l v t n w d.go in record {
     rule = ap (λ z. z.rule) g ∙ a.0.rule;
     entered = ap (λ z. z.entered) g ∙ (a.0.entered ∙ omega (arith, a.1));
     finds = λ q s ys h.
-        let k = lookAt l v q t n w s in
-        subst (λ (x : ℕ). Found l x (ys ++ only (covers q t) (intervals (m ∷ ms)))) (sym (found-goes l v q t n w s d.go))
+        let k = look_at l v q t n w s in
+        subst (λ (x : ℕ). Found l x (ys ++ only (covers q t) (intervals (m ∷ ms)))) (sym (found_goes l v q t n w s d.go))
         (subst (λ (z : List Interval). Found l (found l v q t n (step l v t n w) k) z) (one_more q ys m ms)
         (a.0.finds q k (ys ++ only (covers q t) m.held) (looked q n s w ys d h)));
   }
@@ -153,22 +153,22 @@ module _ {v : View} {l : List ℕ} {ns : List Node} (r : Readable v l ns) (t : �
   walked_from (suc n) w d e =
       let x : Due ns n w = subst (λ (k : ℕ). Due ns k w) (omega arith) d in
       let ms = onward t ns (chase n t ns) (last_at t (get_or ns w.place.0 blank).children) in
-      node-walked n w ms x (after n w (step l v t n w) ms (λ u a b. walked_from n u a b) (steps r t early n w x))
+      node_walked n w ms x (after n w (step l v t n w) ms (λ u a b. walked_from n u a b) (steps r t early n w x))
 
   -- ---- from the root
 
-  walked : Walked l v t (suc v.level) (rootOf v) (chase (suc v.level) t ns v.root.0)
-  unfolding rootOf r5
-  walked = walked_from (suc v.level) (rootOf v) (record { go = refl; place = r.root; level = refl; fifth = refl }) (ap suc r.level)
+  walked : Walked l v t (suc v.level) (root_of v) (chase (suc v.level) t ns v.root.0)
+  unfolding root_of r5
+  walked = walked_from (suc v.level) (root_of v) (record { go = refl; place = r.root; level = refl; fifth = refl }) (ap suc r.level)
 
-  pub breaks-none : (walk_of l v t).rule ≡ Kept
+  pub breaks_none : (walk_of l v t).rule ≡ Kept
   unfolding walk_of
-  breaks-none = rw (add-one) walked.rule
+  breaks_none = rw (add-one) walked.rule
 
   pub enters : (walk_of l v t).entered ≡ length (chase (suc v.level) t ns v.root.0)
-  unfolding walk_of rootOf
+  unfolding walk_of root_of
   enters = rw (add-one) (walked.entered ∙ zero-add _)
 
-  pub finds : (q : ℕ) → Found l (foundOf l v q t) (only (covers q t) (intervals (chase (suc v.level) t ns v.root.0)))
-  unfolding foundOf
+  pub finds : (q : ℕ) → Found l (found_of l v q t) (only (covers q t) (intervals (chase (suc v.level) t ns v.root.0)))
+  unfolding found_of
   finds q = rw (add-one) (walked.finds q 0 [] refl)

@@ -2,7 +2,7 @@
 use Rattle.std.specs.Prelude.{ℕ, ◌*◌, ◌^◌, ◌≤◌, ◌<◌, ◌≡◌, List, [], ◌∷◌, ◌++◌, length, get_or}
 use Rattle.std.specs.Int.{w64}
 use Rattle.std.proofs.Common.{SFits}
-use Rattle.layout.specs.Layout.{nodeSize}
+use Rattle.layout.specs.Layout.{node_size}
 use Rattle.walk.specs.declared.View.{View}
 use Rattle.model.specs.State.{value_of}
 use Rattle.model.specs.Transient.{Interval}
@@ -42,7 +42,7 @@ pub record Readable (v : View) (l : List ℕ) (ns : List Node) : Type 0 where
   pub rest : List ℕ
   pub bytes : l ≡ bytes_of v.shape ns ++ rest
   pub used : v.used ≡ length ns
-  pub small : length ns * nodeSize v.shape ≤ 2 ^ 32
+  pub small : length ns * node_size v.shape ≤ 2 ^ 32
   pub fits : (i : ℕ) → i < length ns → NodeFits (get_or ns (placed i) blank)
   pub sits : (i : ℕ) → i < length ns → ((get_or ns (placed i) blank).seq ≡ i) × Sits (shape_of v.shape) ns (get_or ns (placed i) blank)
   pub known : Known v.attributes (intervals ns)

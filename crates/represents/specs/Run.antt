@@ -12,14 +12,14 @@ use Rattle.model.specs.Nodes.{∞}
 use Rattle.represents.specs.Represents.{entry_of}
 
 -- "the first interval in quark order that breaks either decides, depth before room": on the record alone, each on what the earlier ones leave
-unfoldable pub triedAll : List Interval → History → Refusal
-triedAll [] h = Nothing
-triedAll (x ∷ later) h = let r = tried h x.start x.end in cond (accepted r.refusal) (triedAll later r.history) r.refusal
+unfoldable pub tried_all : List Interval → History → Refusal
+tried_all [] h = Nothing
+tried_all (x ∷ later) h = let r = tried h x.start x.end in cond (accepted r.refusal) (tried_all later r.history) r.refusal
 
 -- on record and nodes
-unfoldable pub insertedAll : List Interval → Held → Held
-insertedAll [] σ = σ
-insertedAll (x ∷ later) σ = insertedAll later (inserted (entry_of x) σ)
+unfoldable pub inserted_all : List Interval → Held → Held
+inserted_all [] σ = σ
+inserted_all (x ∷ later) σ = inserted_all later (inserted (entry_of x) σ)
 
 -- no interval ends at 2^64-1, which is the end of an open node
 abbrev pub Early : List Interval → Type 0

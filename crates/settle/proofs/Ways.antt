@@ -10,62 +10,62 @@ use lib.Dec.{ltb}
 use lib.ListN.{get_or}
 use borrow.Author.Tests.{le-ltb, lt-ltb, le-leb, lt-leb}
 use Rattle.layout.specs.declared.Shape.{Shape}
-use Rattle.record.specs.Record.{Branch, History, branchOf, recordOf}
-use Rattle.record.specs.Levels.{childrenAt}
-use Rattle.record.proofs.Lies.{start-lies, intervals-lie, children-lie, last-end-lies}
+use Rattle.record.specs.Record.{Branch, History, branch_of, record_of}
+use Rattle.record.specs.Levels.{children_at}
+use Rattle.record.proofs.Lies.{start_lies, intervals_lie, children_lie, last_end_lies}
 use Rattle.record.specs.declared.Refusal.TheVariants.{Nothing, Deep, NoRoom}
 use Rattle.settle.specs.declared.Plan.{Plan}
 use Rattle.settle.specs.declared.Verdict.{Verdict}
 use Rattle.settle.specs.declared.Verdict.TheVariants.{Here, Chain, Close}
-use Rattle.settle.specs.Settle.{fits, ruled, plan, followed, askUp, lowest, settle, needed, planRefusal}
+use Rattle.settle.specs.Settle.{fits, ruled, plan, followed, ask_up, lowest, settle, needed, plan_refusal}
 
 -- ═══ Rules 1 and 2, as they are read in the array ═══
 
 module _ (w : List ℕ) (sh : Shape) (s l : ℕ) (child : Bool) (last : ℕ) (lt : l < 16) where
   module _ (due : (not child && ltb 0 l && ltb last s) ≡ true) where
-    pub chain-ruled : get_or w (48 + l) 0 < sh.c → Chain ≡ ruled (branchOf w) sh s l child last
+    pub chain_ruled : get_or w (48 + l) 0 < sh.c → Chain ≡ ruled (branch_of w) sh s l child last
     unfolding ruled
-    chain-ruled few = simp (due, children-lie w l lt, lt-ltb _ _ few)
+    chain_ruled few = simp (due, children_lie w l lt, lt-ltb _ _ few)
 
-    pub full-ruled : sh.c ≤ get_or w (48 + l) 0 → Close ≡ ruled (branchOf w) sh s l child last
+    pub full_ruled : sh.c ≤ get_or w (48 + l) 0 → Close ≡ ruled (branch_of w) sh s l child last
     unfolding ruled
-    full-ruled all = simp (due, children-lie w l lt, le-ltb _ _ all)
+    full_ruled all = simp (due, children_lie w l lt, le-ltb _ _ all)
 
   module _ (due : (not child && ltb 0 l && ltb last s) ≡ false) where
-    pub here-ruled : get_or w (32 + l) 0 < sh.k → Here ≡ ruled (branchOf w) sh s l child last
+    pub here_ruled : get_or w (32 + l) 0 < sh.k → Here ≡ ruled (branch_of w) sh s l child last
     unfolding ruled
-    here-ruled few = simp (due, intervals-lie w l lt, lt-ltb _ _ few)
+    here_ruled few = simp (due, intervals_lie w l lt, lt-ltb _ _ few)
 
-    pub close-ruled : sh.k ≤ get_or w (32 + l) 0 → Close ≡ ruled (branchOf w) sh s l child last
+    pub close_ruled : sh.k ≤ get_or w (32 + l) 0 → Close ≡ ruled (branch_of w) sh s l child last
     unfolding ruled
-    close-ruled all = simp (due, intervals-lie w l lt, le-ltb _ _ all)
+    close_ruled all = simp (due, intervals_lie w l lt, le-ltb _ _ all)
 
-pub ruleset ruled-ways = (chain-ruled, full-ruled, here-ruled, close-ruled)
+pub ruleset ruled-ways = (chain_ruled, full_ruled, here_ruled, close_ruled)
 
 -- ═══ The question put to level l, with the verdict v ═══
 
 module _ (h : History) (s l : ℕ) (child : Bool) (last n : ℕ) (v : Verdict) (said : v ≡ ruled h.branch h.shape s l child last) where
-  pub here : (left : ℕ) → v ≡ Here → ◌≡◌ {A = Plan} (record { closes = n; level = l; chain = false }) (askUp left h s l child last n)
-  unfolding askUp followed
+  pub here : (left : ℕ) → v ≡ Here → ◌≡◌ {A = Plan} (record { closes = n; level = l; chain = false }) (ask_up left h s l child last n)
+  unfolding ask_up followed
   here zero e = simp (← said, e)
   here (suc left) e = simp (← said, e)
 
-  pub chained : (left : ℕ) → v ≡ Chain → ◌≡◌ {A = Plan} (record { closes = n; level = l; chain = true }) (askUp left h s l child last n)
-  unfolding askUp followed
+  pub chained : (left : ℕ) → v ≡ Chain → ◌≡◌ {A = Plan} (record { closes = n; level = l; chain = true }) (ask_up left h s l child last n)
+  unfolding ask_up followed
   chained zero e = simp (← said, e)
   chained (suc left) e = simp (← said, e)
 
-  pub new-root : v ≡ Close → l ≡ h.top → ◌≡◌ {A = Plan} (record { closes = l + 1 - h.low; level = l + 1; chain = ltb h.largest_end s }) (askUp (h.top - l) h s l child last n)
-  unfolding askUp followed
-  new-root e t = let z : h.top - l ≡ 0 = omega arith in simp (z, ← said, e)
+  pub new_root_lem : v ≡ Close → l ≡ h.top → ◌≡◌ {A = Plan} (record { closes = l + 1 - h.low; level = l + 1; chain = ltb h.largest_end s }) (ask_up (h.top - l) h s l child last n)
+  unfolding ask_up followed
+  new_root_lem e t = let z : h.top - l ≡ 0 = omega arith in simp (z, ← said, e)
 
-  pub upward : (r : Plan) → v ≡ Close → l ≤ h.top → (l ≡ h.top → ⊥) → r ≡ askUp (h.top - (l + 1)) h s (l + 1) false h.largest_end (l + 1 - h.low) → r ≡ askUp (h.top - l) h s l child last n
-  unfolding askUp followed
+  pub upward : (r : Plan) → v ≡ Close → l ≤ h.top → (l ≡ h.top → ⊥) → r ≡ ask_up (h.top - (l + 1)) h s (l + 1) false h.largest_end (l + 1 - h.low) → r ≡ ask_up (h.top - l) h s l child last n
+  unfolding ask_up followed
   upward r e le ne f = let z : h.top - l ≡ suc (h.top - (l + 1)) = omega arith in simp (z, ← said, e, f)
 
   -- the level alone, which is the same however many levels are said to be closed before
-  pub level-upward : (r : ℕ) → v ≡ Close → l ≤ h.top → (l ≡ h.top → ⊥) → ((m : ℕ) → r ≡ (askUp (h.top - (l + 1)) h s (l + 1) false h.largest_end m).level) → r ≡ (askUp (h.top - l) h s l child last n).level
-  level-upward r e le ne f = f (l + 1 - h.low) ∙ ap (λ (p : Plan). p.level) (upward _ e le ne refl)
+  pub level_upward : (r : ℕ) → v ≡ Close → l ≤ h.top → (l ≡ h.top → ⊥) → ((m : ℕ) → r ≡ (ask_up (h.top - (l + 1)) h s (l + 1) false h.largest_end m).level) → r ≡ (ask_up (h.top - l) h s l child last n).level
+  level_upward r e le ne f = f (l + 1 - h.low) ∙ ap (λ (p : Plan). p.level) (upward _ e le ne refl)
 
 -- the parent is an open level too, and fewer are above it
 pub fewer : (top low l t : ℕ) → top - l ≡ t → (low ≤ l) × (l ≤ top) × (top < 16) → (l ≡ top → ⊥) → (top - (l + 1) < t) × ((low ≤ l + 1) × (l + 1 ≤ top) × (top < 16))
@@ -82,57 +82,57 @@ module _ (h : History) (s : ℕ) where
   abbrev Ends : ℕ → ℕ → Bool → Plan → Type 0
   Ends l n due p = (p ≡ plan n l due) ⊎ Above l p
 
-  followed-ends : (due few room : Bool) (l n : ℕ) (up : Plan) → Above l up → Ends l n due (followed (cond due (cond few Chain Close) (cond room Here Close)) l n up)
+  followed_ends : (due few room : Bool) (l n : ℕ) (up : Plan) → Above l up → Ends l n due (followed (cond due (cond few Chain Close) (cond room Here Close)) l n up)
   unfolding followed
-  followed-ends true true room l n up above = inl refl
-  followed-ends true false room l n up above = inr above
-  followed-ends false few true l n up above = inl refl
-  followed-ends false few false l n up above = inr above
+  followed_ends true true room l n up above = inl refl
+  followed_ends true false room l n up above = inr above
+  followed_ends false few true l n up above = inl refl
+  followed_ends false few false l n up above = inr above
 
-  ruled-ends : (l : ℕ) (child : Bool) (last n : ℕ) (up : Plan) → Above l up → Ends l n (not child && ltb 0 l && ltb last s) (followed (ruled h.branch h.shape s l child last) l n up)
+  ruled_ends : (l : ℕ) (child : Bool) (last n : ℕ) (up : Plan) → Above l up → Ends l n (not child && ltb 0 l && ltb last s) (followed (ruled h.branch h.shape s l child last) l n up)
   unfolding ruled
-  ruled-ends l child last n up = followed-ends (not child && ltb 0 l && ltb last s) (ltb (childrenAt h.branch l) h.shape.c) (fits h.branch h.shape l) l n up
+  ruled_ends l child last n up = followed_ends (not child && ltb 0 l && ltb last s) (ltb (children_at h.branch l) h.shape.c) (fits h.branch h.shape l) l n up
 
-  ask-ends : (left l : ℕ) (child : Bool) (last n : ℕ) → Ends l n (not child && ltb 0 l && ltb last s) (askUp left h s l child last n)
-  unfolding askUp
-  ask-ends zero l child last n = ruled-ends l child last n _ (omega arith, refl)
-  ask-ends (suc left) l child last n =
-      ruled-ends l child last n _
+  ask_ends : (left l : ℕ) (child : Bool) (last n : ℕ) → Ends l n (not child && ltb 0 l && ltb last s) (ask_up left h s l child last n)
+  unfolding ask_up
+  ask_ends zero l child last n = ruled_ends l child last n _ (omega arith, refl)
+  ask_ends (suc left) l child last n =
+      ruled_ends l child last n _
       (⊎_elim
       (λ e. subst (Above l) (sym e) (omega arith, simp (lt-ltb 0 (l + 1) (omega arith))))
       (λ above. (omega (arith, above.0), above.1))
-      (ask-ends left (l + 1) false h.largest_end (l + 1 - h.low)))
+      (ask_ends left (l + 1) false h.largest_end (l + 1 - h.low)))
 
   -- t is the level to which the question comes that is put to level l, where nothing is closed yet
-  module _ (left l : ℕ) (child : Bool) (last t : ℕ) (told : t ≡ (askUp left h s l child last 0).level) where
+  module _ (left l : ℕ) (child : Bool) (last t : ℕ) (told : t ≡ (ask_up left h s l child last 0).level) where
     pub no_lower : l ≤ t
-    no_lower = ⊎_elim (λ e. omega (arith, ap (λ (p : Plan). p.level) e)) (λ above. omega (arith, above.0)) (ask-ends left l child last 0)
+    no_lower = ⊎_elim (λ e. omega (arith, ap (λ (p : Plan). p.level) e)) (λ above. omega (arith, above.0)) (ask_ends left l child last 0)
 
-    pub stays : t ≡ l → plan 0 l (not child && ltb 0 l && ltb last s) ≡ askUp left h s l child last 0
-    stays same = ⊎_elim sym (λ above. absurd (omega (arith, above.0))) (ask-ends left l child last 0)
+    pub stays : t ≡ l → plan 0 l (not child && ltb 0 l && ltb last s) ≡ ask_up left h s l child last 0
+    stays same = ⊎_elim sym (λ above. absurd (omega (arith, above.0))) (ask_ends left l child last 0)
 
-    pub goes-up : (t ≡ l → ⊥) → plan (t - h.low) t (ltb h.largest_end s) ≡ askUp left h s l child last 0
-    goes-up other = ⊎_elim (λ e. absurd (other (told ∙ ap (λ (p : Plan). p.level) e))) (λ above. rw told (sym above.1)) (ask-ends left l child last 0)
+    pub goes_up : (t ≡ l → ⊥) → plan (t - h.low) t (ltb h.largest_end s) ≡ ask_up left h s l child last 0
+    goes_up other = ⊎_elim (λ e. absurd (other (told ∙ ap (λ (p : Plan). p.level) e))) (λ above. rw told (sym above.1)) (ask_ends left l child last 0)
 
 -- ═══ The search for the lowest level, from l on ═══
 
-module _ (w : List ℕ) (s l top a : ℕ) (inv : lowest (top - l) (branchOf w) s l ≡ a) (lt : l < top) (depth : top < 16) where
+module _ (w : List ℕ) (s l top a : ℕ) (inv : lowest (top - l) (branch_of w) s l ≡ a) (lt : l < top) (depth : top < 16) where
   pub found : get_or w (16 + l) 0 ≤ s → l ≡ a
   unfolding lowest
-  found le = let z : top - l ≡ suc (top - (l + 1)) = omega arith in simp (z, start-lies w l (omega arith), le-leb _ _ le) at inv
+  found le = let z : top - l ≡ suc (top - (l + 1)) = omega arith in simp (z, start_lies w l (omega arith), le-leb _ _ le) at inv
 
-  pub passed : s < get_or w (16 + l) 0 → lowest (top - (l + 1)) (branchOf w) s (l + 1) ≡ a
+  pub passed : s < get_or w (16 + l) 0 → lowest (top - (l + 1)) (branch_of w) s (l + 1) ≡ a
   unfolding lowest
-  passed gt = let z : top - l ≡ suc (top - (l + 1)) = omega arith in simp (z, start-lies w l (omega arith), lt-leb _ _ gt) at inv
+  passed gt = let z : top - l ≡ suc (top - (l + 1)) = omega arith in simp (z, start_lies w l (omega arith), lt-leb _ _ gt) at inv
 
-pub at-root : (b : Branch) (s l top a : ℕ) → lowest (top - l) b s l ≡ a → top ≤ l → l ≡ a
+pub at_root : (b : Branch) (s l top a : ℕ) → lowest (top - l) b s l ≡ a → top ≤ l → l ≡ a
 unfolding lowest
-at-root b s l top a inv le = let z : top - l ≡ 0 = omega arith in simp z at inv
+at_root b s l top a inv le = let z : top - l ≡ 0 = omega arith in simp z at inv
 
-pub settled : (sh : Shape) (w : List ℕ) (s l : ℕ) (r : Plan) → (l ≡ lowest (get_or w 86 0 - get_or w 85 0) (branchOf w) s (get_or w 85 0)) × (get_or w 85 0 ≤ l) × (l ≤ get_or w 86 0) × (get_or w 86 0 < 16)
-    → r ≡ askUp (get_or w 86 0 - l) (recordOf sh w) s l (ltb (get_or w 85 0) l) (get_or w (64 + l) 0) 0 → r ≡ settle (recordOf sh w) s
+pub settled : (sh : Shape) (w : List ℕ) (s l : ℕ) (r : Plan) → (l ≡ lowest (get_or w 86 0 - get_or w 85 0) (branch_of w) s (get_or w 85 0)) × (get_or w 85 0 ≤ l) × (l ≤ get_or w 86 0) × (get_or w 86 0 < 16)
+    → r ≡ ask_up (get_or w 86 0 - l) (record_of sh w) s l (ltb (get_or w 85 0) l) (get_or w (64 + l) 0) 0 → r ≡ settle (record_of sh w) s
 unfolding settle
-settled sh w s l r p f = simp (← p.0, last-end-lies w l (omega (arith, p.2, p.3)), f)
+settled sh w s l r p f = simp (← p.0, last_end_lies w l (omega (arith, p.2, p.3)), f)
 
 -- ═══ Depth and room ═══
 
@@ -153,17 +153,17 @@ module _ (top : ℕ) (p : Plan) where
   unfolding needed
   neither le e = simp (le-ltb _ _ le, e)
 
-pub deep : (h : History) (p : Plan) → 15 < p.level → Deep ≡ planRefusal h p
-unfolding planRefusal
+pub deep : (h : History) (p : Plan) → 15 < p.level → Deep ≡ plan_refusal h p
+unfolding plan_refusal
 deep h p d = simp (lt-ltb _ _ d)
 
 module _ (h : History) (p : Plan) (low : p.level ≤ 15) (n : ℕ) (counted : n ≡ needed h.top p) where
-  pub full : h.shape.n - h.used < n → NoRoom ≡ planRefusal h p
-  unfolding planRefusal
+  pub full : h.shape.n - h.used < n → NoRoom ≡ plan_refusal h p
+  unfolding plan_refusal
   full lt = simp (le-ltb _ _ low, ← counted, lt-ltb _ _ lt)
 
-  pub fine : n ≤ h.shape.n - h.used → Nothing ≡ planRefusal h p
-  unfolding planRefusal
+  pub fine : n ≤ h.shape.n - h.used → Nothing ≡ plan_refusal h p
+  unfolding plan_refusal
   fine le = simp (le-ltb _ _ low, ← counted, le-ltb _ _ le)
 
 pub ruleset answers = (deep, full, fine)

@@ -1,7 +1,7 @@
 // Where an interval goes, and whether there is depth and room for it. "To store an interval starting at s, take the lowest open node with start at or below s."
 ghost use Rattle.std.specs.Prelude.{◌≡◌, ℕ, ◌-◌, ◌≤◌, ◌<◌};
-ghost use Rattle.record.specs.Record.{branchOf, recordOf, usedIn, lowIn, topIn};
-ghost use Rattle.settle.specs.Settle.{ruled, askUp, lowest, taken, settle, needed, planRefusal};
+ghost use Rattle.record.specs.Record.{branch_of, record_of, used_in, low_in, top_in};
+ghost use Rattle.settle.specs.Settle.{ruled, ask_up, lowest, taken, settle, needed, plan_refusal};
 
 use layout::Shape;
 use record::Refusal;
@@ -27,7 +27,7 @@ pub enum Verdict {
 // With C children, close it. 2. Otherwise store in it if it has fewer than K intervals, else close it."
 fn rule(shape: Shape, h: &[u64; 87], s: u64, level: u64, child: bool, last: u64) -> Verdict
     requires { level < 16 }
-    ensures { result ≡ ruled (branchOf h.now) shape s level child last }
+    ensures { result ≡ ruled (branch_of h.now) shape s level child last }
 {
     let i = level as usize;
     if !child & (0 < level) & (last < s) {
@@ -45,8 +45,8 @@ fn rule(shape: Shape, h: &[u64; 87], s: u64, level: u64, child: bool, last: u64)
 // "Then the same question is put again to the parent": the number of open levels left falls. Tells the level that stores or grows the chain, one above the
 // root's for a new root. Beside the lent record numbers alone go in and out: a struct would be copied at every level.
 fn ask(k: u32, c: u32, n: u32, h: &[u64; 87], s: u64, level: u64, child: bool, last: u64) -> u64
-    requires { (lowIn h.now ≤ level) × (level ≤ topIn h.now) × (topIn h.now < 16) }
-    ensures { (closes : ℕ) → result ≡ (askUp (topIn h.now - level) (recordOf (record { k = k; c = c; n = n }) h.now) s level child last closes).level }
+    requires { (low_in h.now ≤ level) × (level ≤ top_in h.now) × (top_in h.now < 16) }
+    ensures { (closes : ℕ) → result ≡ (ask_up (top_in h.now - level) (record_of (record { k = k; c = c; n = n }) h.now) s level child last closes).level }
 {
     let v = rule(Shape { k: k, c: c, n: n }, h, s, level, child, last);
     match v {
@@ -66,8 +66,8 @@ fn ask(k: u32, c: u32, n: u32, h: &[u64; 87], s: u64, level: u64, child: bool, l
 
 // The lowest open level with start at or below s, or the root's.
 pub fn seek(h: &[u64; 87], s: u64) -> u64
-    requires { (lowIn h.now ≤ topIn h.now) × (topIn h.now < 16) }
-    ensures { (result ≡ lowest (topIn h.now - lowIn h.now) (branchOf h.now) s (lowIn h.now)) × (lowIn h.now ≤ result) × (result ≤ topIn h.now) }
+    requires { (low_in h.now ≤ top_in h.now) × (top_in h.now < 16) }
+    ensures { (result ≡ lowest (top_in h.now - low_in h.now) (branch_of h.now) s (low_in h.now)) × (low_in h.now ≤ result) × (result ≤ top_in h.now) }
 {
     let top = h[record::TOP];
     let mut level = h[record::LOW];
@@ -84,7 +84,7 @@ pub fn seek(h: &[u64; 87], s: u64) -> u64
 // Whether rule 2 has the interval stored in this open node, as most are: then nothing closes, no node is made, and no plan is needed.
 pub fn takes(shape: Shape, h: &[u64; 87], s: u64, level: u64) -> bool
     requires { level < 16 }
-    ensures { result ≡ taken (recordOf shape h.now) s level }
+    ensures { result ≡ taken (record_of shape h.now) s level }
 {
     let i = level as usize;
     if !(h[record::LOW] < level) & (0 < level) & (h[record::LAST_ENDS + i] < s) {
@@ -95,8 +95,8 @@ pub fn takes(shape: Shape, h: &[u64; 87], s: u64, level: u64) -> bool
 
 // What is to be done to store an interval that starts at s, from the lowest open level with start at or below s.
 pub fn settle(shape: Shape, h: &[u64; 87], s: u64, level: u64) -> Plan
-    requires { (level ≡ lowest (topIn h.now - lowIn h.now) (branchOf h.now) s (lowIn h.now)) × (lowIn h.now ≤ level) × (level ≤ topIn h.now) × (topIn h.now < 16) }
-    ensures { result ≡ settle (recordOf shape h.now) s }
+    requires { (level ≡ lowest (top_in h.now - low_in h.now) (branch_of h.now) s (low_in h.now)) × (low_in h.now ≤ level) × (level ≤ top_in h.now) × (top_in h.now < 16) }
+    ensures { result ≡ settle (record_of shape h.now) s }
 {
     let low = h[record::LOW];
     let last = h[record::LAST_ENDS + level as usize];
@@ -137,8 +137,8 @@ fn count(top: u64, p: Plan) -> u64
 
 // "Depth at most 16", N nodes: depth before room.
 pub fn refusal(shape: Shape, h: &[u64; 87], p: Plan) -> Refusal
-    requires { usedIn h.now ≤ shape.n }
-    ensures { result ≡ planRefusal (recordOf shape h.now) p }
+    requires { used_in h.now ≤ shape.n }
+    ensures { result ≡ plan_refusal (record_of shape h.now) p }
 {
     if 15 < p.level {
         return Refusal::Deep;

@@ -7,14 +7,14 @@ use Rattle.transient.specs.declared.Change.TheVariants.{Set, Remove, Increment}
 use Rattle.transient.specs.declared.Outcome.{Outcome}
 use Rattle.transient.specs.declared.Outcome.TheVariants.{To, Above}
 use Rattle.transient.specs.declared.Decision.TheVariants.{Top, Same, Replaced, Ended}
-use Rattle.transient.specs.Transient.{increased, becomes, sameState, decided, decide}
+use Rattle.transient.specs.Transient.{increased, becomes, same_state, decided, decide}
 
 -- ---- the three ways of an increment
 
 module _ (kind : ℕ) (value : ℤ) where
-  pub null-one : kind ≡ 0 → To 1 (pos 1) ≡ increased kind value
+  pub null_one : kind ≡ 0 → To 1 (pos 1) ≡ increased kind value
   unfolding increased
-  null-one k = simp (eq-eqb _ _ k)
+  null_one k = simp (eq-eqb _ _ k)
 
   pub at_top : (kind ≡ 0 → ⊥) → of_z w64 value ≡ 9223372036854775807 → Above ≡ increased kind value
   unfolding increased
@@ -27,9 +27,9 @@ module _ (kind : ℕ) (value : ℤ) where
 -- ---- the three changes
 
 module _ (change : Change) (kind : ℕ) (value : ℤ) where
-  pub sets-value : (v w : ℤ) → w ≡ v → change ≡ Set v → To 1 w ≡ becomes change kind value
+  pub sets_value : (v w : ℤ) → w ≡ v → change ≡ Set v → To 1 w ≡ becomes change kind value
   unfolding becomes
-  sets-value v w e c = simp (c, e)
+  sets_value v w e c = simp (c, e)
 
   pub removes : change ≡ Remove → To 0 (pos 0) ≡ becomes change kind value
   unfolding becomes
@@ -42,20 +42,20 @@ module _ (change : Change) (kind : ℕ) (value : ℤ) where
 -- ---- the four decisions; z is the ongoing value read back from its bits, as code has it
 
 module _ (o : Ongoing) (t : ℕ) (change : Change) (r : Outcome) (z : ℤ) (back : z ≡ o.value) (is : r ≡ becomes change o.kind z) where
-  pub to-top : r ≡ Above → Top ≡ decide o t change
+  pub to_top : r ≡ Above → Top ≡ decide o t change
   unfolding decide decided
-  to-top e = simp (← back, ← is, e)
+  to_top e = simp (← back, ← is, e)
 
   module _ (kind : ℕ) (value : ℤ) (to : r ≡ To kind value) where
-    pub to_same : sameState kind value o ≡ true → Same ≡ decide o t change
+    pub to_same : same_state kind value o ≡ true → Same ≡ decide o t change
     unfolding decide decided
     to_same s = simp (← back, ← is, to, s)
 
-    module _ (w : ℤ) (again : w ≡ value) (s : sameState kind value o ≡ false) where
-      pub to-replaced : o.start ≡ t → Replaced (record { kind = kind; value = w; start = t }) ≡ decide o t change
+    module _ (w : ℤ) (again : w ≡ value) (s : same_state kind value o ≡ false) where
+      pub to_replaced : o.start ≡ t → Replaced (record { kind = kind; value = w; start = t }) ≡ decide o t change
       unfolding decide decided
-      to-replaced e = simp (← back, ← is, to, s, eq-eqb _ _ e, again)
+      to_replaced e = simp (← back, ← is, to, s, eq-eqb _ _ e, again)
 
-      pub to-ended : (o.start ≡ t → ⊥) → Ended (record { kind = kind; value = w; start = t }) ≡ decide o t change
+      pub to_ended : (o.start ≡ t → ⊥) → Ended (record { kind = kind; value = w; start = t }) ≡ decide o t change
       unfolding decide decided
-      to-ended e = simp (← back, ← is, to, s, ne_eqb _ _ e, again)
+      to_ended e = simp (← back, ← is, to, s, ne_eqb _ _ e, again)

@@ -1,25 +1,25 @@
 -- The ongoing table: an entry read, an entry written, read back, and the others as they were. Assumes nothing.
 use Rattle.std.proofs.Common.{◌≡◌, ℕ, ◌+◌, ◌*◌, ◌/◌, ◌^◌, ◌<◌, ◌≤◌, Bool, true, false, ltb, List, length, get_or, ℤ, refl, ap, arith, lit<, ltb-false, ltb-true}
 use lib.Seq.{sets, length-sets}
-use Rattle.words.proofs.Stores.{getD-sets-below, getD-sets-above}
+use Rattle.words.proofs.Stores.{get_or_sets_below, get_or_sets_above}
 use Rattle.layout.specs.declared.Entry.{Entry}
 use Rattle.layout.specs.declared.Quark.{Quark}
-use Rattle.layout.specs.Layout.{entrySize, entryBytes, read_entry, EntryFits}
-use Rattle.layout.proofs.Parts.{length-entry}
-use Rattle.layout.proofs.Back.{entry-back, entry-same, entry-fits}
+use Rattle.layout.specs.Layout.{entry_size, entry_bytes, read_entry, EntryFits}
+use Rattle.layout.proofs.Parts.{length_entry}
+use Rattle.layout.proofs.Back.{entry_back, entry_same, entry_fits_lem}
 use Rattle.transient.specs.declared.Ongoing.{Ongoing}
-use Rattle.transient.specs.Transient.{table_at, ongoingEnd, ongoingAt, interval, withOngoing, OngoingFits}
+use Rattle.transient.specs.Transient.{table_at, ongoing_end, ongoing_at, interval, with_ongoing, OngoingFits}
 
 -- ---- what the code does
 
-pub ongoing-read : (l : List ℕ) (q : ℕ) (e : Entry) (v : ℤ) → v ≡ e.value → e ≡ read_entry l (table_at q)
-    → record { kind = e.kind; value = v; start = e.start } ≡ ongoingAt l q
-unfolding ongoingAt
-ongoing-read l q e v b p = simp (b, p)
+pub ongoing_read : (l : List ℕ) (q : ℕ) (e : Entry) (v : ℤ) → v ≡ e.value → e ≡ read_entry l (table_at q)
+    → record { kind = e.kind; value = v; start = e.start } ≡ ongoing_at l q
+unfolding ongoing_at
+ongoing_read l q e v b p = simp (b, p)
 
-pub ongoing-put : (l m : List ℕ) (q : Quark) (o : Ongoing) (e : Entry) → e ≡ interval q o ongoingEnd → m ≡ sets l (table_at q.0) (entryBytes e) → m ≡ withOngoing l q o
-unfolding withOngoing
-ongoing-put l m q o e p h = simp (h, p)
+pub ongoing_put : (l m : List ℕ) (q : Quark) (o : Ongoing) (e : Entry) → e ≡ interval q o ongoing_end → m ≡ sets l (table_at q.0) (entry_bytes e) → m ≡ with_ongoing l q o
+unfolding with_ongoing
+ongoing_put l m q o e p h = simp (h, p)
 
 -- an entry's three numbers that are a state
 abbrev state : Entry → Ongoing
@@ -28,48 +28,48 @@ state e = record { kind = e.kind; value = e.value; start = e.start }
 -- ---- room
 
 -- an attribute's entry lies in a table of enough entries
-pub entry-room : (q attributes size : ℕ) → q < attributes → attributes ≤ size / entrySize → table_at q + entrySize ≤ size
-entry-room q attributes size h g = omega arith
+pub entry_room : (q attributes size : ℕ) → q < attributes → attributes ≤ size / entry_size → table_at q + entry_size ≤ size
+entry_room q attributes size h g = omega arith
 
-pub entry-within : (q attributes size : ℕ) → q < attributes → attributes * entrySize ≤ size → table_at q + entrySize ≤ size
-entry-within q attributes size h g = omega arith
+pub entry_within : (q attributes size : ℕ) → q < attributes → attributes * entry_size ≤ size → table_at q + entry_size ≤ size
+entry_within q attributes size h g = omega arith
 
 -- ---- reading after writing
 
-pub interval-fits : (q : Quark) (o : Ongoing) (end : ℕ) → q.0 < 2 ^ 32 → OngoingFits o → end < 2 ^ 64 → EntryFits (interval q o end)
+pub interval_fits : (q : Quark) (o : Ongoing) (end : ℕ) → q.0 < 2 ^ 32 → OngoingFits o → end < 2 ^ 64 → EntryFits (interval q o end)
 unfolding interval
-interval-fits q o end h f e = record { quark = h; kind = f.kind; start = f.start; end = e; value = f.value }
+interval_fits q o end h f e = record { quark = h; kind = f.kind; start = f.start; end = e; value = f.value }
 
 module _ (l : List ℕ) (q : Quark) (o : Ongoing) where
-  pub length-with : length (withOngoing l q o) ≡ length l
-  unfolding withOngoing
-  length-with = length-sets l (table_at q.0) (entryBytes (interval q o ongoingEnd))
+  pub length_with : length (with_ongoing l q o) ≡ length l
+  unfolding with_ongoing
+  length_with = length-sets l (table_at q.0) (entry_bytes (interval q o ongoing_end))
 
   -- what was written is read back
-  pub ongoing-back : q.0 < 2 ^ 32 → OngoingFits o → table_at q.0 + entrySize ≤ length l → ongoingAt (withOngoing l q o) q.0 ≡ o
-  unfolding ongoingAt withOngoing interval
-  ongoing-back h f room =
+  pub ongoing_back : q.0 < 2 ^ 32 → OngoingFits o → table_at q.0 + entry_size ≤ length l → ongoing_at (with_ongoing l q o) q.0 ≡ o
+  unfolding ongoing_at with_ongoing interval
+  ongoing_back h f room =
       ap state
-      (entry-back l (table_at q.0) (interval q o ongoingEnd) (interval-fits q o ongoingEnd h f (lit< tt)) room)
+      (entry_back l (table_at q.0) (interval q o ongoing_end) (interval_fits q o ongoing_end h f (lit< tt)) room)
 
-  apart : (x k : ℕ) → (x ≡ q.0 → ⊥) → k < entrySize → get_or (withOngoing l q o) (table_at x + k) 0 ≡ get_or l (table_at x + k) 0
-  unfolding withOngoing
+  apart : (x k : ℕ) → (x ≡ q.0 → ⊥) → k < entry_size → get_or (with_ongoing l q o) (table_at x + k) 0 ≡ get_or l (table_at x + k) 0
+  unfolding with_ongoing
   apart x k ne b = go (ltb x q.0) refl
     where
       vs : List ℕ
-      vs = entryBytes (interval q o ongoingEnd)
+      vs = entry_bytes (interval q o ongoing_end)
 
       go : (t : Bool) → ltb x q.0 ≡ t → get_or (sets l (table_at q.0) vs) (table_at x + k) 0 ≡ get_or l (table_at x + k) 0
-      go true e = getD-sets-below l (table_at q.0) vs (table_at x + k) 0 (omega (arith, ltb-true x q.0 e))
-      go false e = getD-sets-above l (table_at q.0) vs (table_at x + k) 0 (omega (arith, ltb-false x q.0 e, length-entry (interval q o ongoingEnd)))
+      go true e = get_or_sets_below l (table_at q.0) vs (table_at x + k) 0 (omega (arith, ltb-true x q.0 e))
+      go false e = get_or_sets_above l (table_at q.0) vs (table_at x + k) 0 (omega (arith, ltb-false x q.0 e, length_entry (interval q o ongoing_end)))
 
   -- another attribute's state is as it was
-  pub ongoing-other : (x : ℕ) → (x ≡ q.0 → ⊥) → ongoingAt (withOngoing l q o) x ≡ ongoingAt l x
-  unfolding ongoingAt
-  ongoing-other x ne = ap state (entry-same (withOngoing l q o) l (table_at x) (table_at x) (λ k b. apart x k ne b))
+  pub ongoing_other : (x : ℕ) → (x ≡ q.0 → ⊥) → ongoing_at (with_ongoing l q o) x ≡ ongoing_at l x
+  unfolding ongoing_at
+  ongoing_other x ne = ap state (entry_same (with_ongoing l q o) l (table_at x) (table_at x) (λ k b. apart x k ne b))
 
 -- ---- what is read from bytes fits
 
-pub ongoing-fits : (l : List ℕ) (q : ℕ) → ((k : ℕ) → k < length l → get_or l k 0 < 256) → table_at q + entrySize ≤ length l → OngoingFits (ongoingAt l q)
-unfolding ongoingAt
-ongoing-fits l q bytes room = let f = entry-fits l bytes (table_at q) room in record { kind = f.kind; value = f.value; start = f.start }
+pub ongoing_fits : (l : List ℕ) (q : ℕ) → ((k : ℕ) → k < length l → get_or l k 0 < 256) → table_at q + entry_size ≤ length l → OngoingFits (ongoing_at l q)
+unfolding ongoing_at
+ongoing_fits l q bytes room = let f = entry_fits_lem l bytes (table_at q) room in record { kind = f.kind; value = f.value; start = f.start }

@@ -2,25 +2,25 @@
 use Rattle.std.proofs.Common.{◌≡◌, zero, suc, true, false, ℤ, pos, negsuc, ◌+ℤ◌, sym, ap, ◌∙◌, subst, arith, to_z-of_z, w64, SFits, to_z, of_z, eq-eqb, ne_eqb, eqb-true}
 use borrow.Author.Tests.{eqb-false}
 use lib.IntN.{suc_ℤ, +ℤ_one}
-use Rattle.transient.specs.Transient.{sameValue}
+use Rattle.transient.specs.Transient.{same_value}
 
 -- ---- two i64 with the same bits are the same
 
-pub same-value : (v w : ℤ) → SFits w64 v → SFits w64 w → sameValue v w ≡ true → v ≡ w
-same-value v w f g e = sym (to_z-of_z f) ∙ ap (to_z w64) (eqb-true (of_z w64 v) (of_z w64 w) e) ∙ to_z-of_z g
+pub same_value_lem : (v w : ℤ) → SFits w64 v → SFits w64 w → same_value v w ≡ true → v ≡ w
+same_value_lem v w f g e = sym (to_z-of_z f) ∙ ap (to_z w64) (eqb-true (of_z w64 v) (of_z w64 w) e) ∙ to_z-of_z g
 
-pub value_same : (v w : ℤ) → v ≡ w → sameValue v w ≡ true
+pub value_same : (v w : ℤ) → v ≡ w → same_value v w ≡ true
 value_same v w e = eq-eqb (of_z w64 v) (of_z w64 w) (ap (of_z w64) e)
 
-pub other-value : (v w : ℤ) → SFits w64 v → SFits w64 w → (v ≡ w → ⊥) → sameValue v w ≡ false
-other-value v w f g n = ne_eqb (of_z w64 v) (of_z w64 w) (λ e. n (sym (to_z-of_z f) ∙ ap (to_z w64) e ∙ to_z-of_z g))
+pub other_value : (v w : ℤ) → SFits w64 v → SFits w64 w → (v ≡ w → ⊥) → same_value v w ≡ false
+other_value v w f g n = ne_eqb (of_z w64 v) (of_z w64 w) (λ e. n (sym (to_z-of_z f) ∙ ap (to_z w64) e ∙ to_z-of_z g))
 
-pub value-other : (v w : ℤ) → sameValue v w ≡ false → v ≡ w → ⊥
-value-other v w h e = eqb-false (of_z w64 v) (of_z w64 w) h (ap (of_z w64) e)
+pub value_other : (v w : ℤ) → same_value v w ≡ false → v ≡ w → ⊥
+value_other v w h e = eqb-false (of_z w64 v) (of_z w64 w) h (ap (of_z w64) e)
 
 -- the bits 2^63-1 are those of 2^63-1 alone
-pub top-value : (v : ℤ) → SFits w64 v → of_z w64 v ≡ 9223372036854775807 → v ≡ pos 9223372036854775807
-top-value v f e = sym (to_z-of_z f) ∙ ap (to_z w64) e
+pub top_value : (v : ℤ) → SFits w64 v → of_z w64 v ≡ 9223372036854775807 → v ≡ pos 9223372036854775807
+top_value v f e = sym (to_z-of_z f) ∙ ap (to_z w64) e
 
 -- ---- one more
 
@@ -34,8 +34,8 @@ pub fits_one : (v : ℤ) → SFits w64 v → (of_z w64 v ≡ 9223372036854775807
 fits_one v f e = subst (SFits w64) (+ℤ_one v) (plus_one v f e)
 
 -- z is v read back from its bits, as code has it
-pub add-one-fits : (v z : ℤ) → z ≡ v → SFits w64 v → (of_z w64 v ≡ 9223372036854775807 → ⊥) → SFits w64 (z +ℤ pos 1)
-add-one-fits v z p f e = subst (λ (k : ℤ). SFits w64 (k +ℤ pos 1)) (sym p) (plus_one v f e)
+pub add_one_fits : (v z : ℤ) → z ≡ v → SFits w64 v → (of_z w64 v ≡ 9223372036854775807 → ⊥) → SFits w64 (z +ℤ pos 1)
+add_one_fits v z p f e = subst (λ (k : ℤ). SFits w64 (k +ℤ pos 1)) (sym p) (plus_one v f e)
 
 pub one_more : (v z : ℤ) → z ≡ v → SFits w64 v → (of_z w64 v ≡ 9223372036854775807 → ⊥) → to_z w64 (of_z w64 (z +ℤ pos 1)) ≡ suc_ℤ v
-one_more v z p f e = to_z-of_z (add-one-fits v z p f e) ∙ ap (λ (k : ℤ). k +ℤ pos 1) p ∙ +ℤ_one v
+one_more v z p f e = to_z-of_z (add_one_fits v z p f e) ∙ ap (λ (k : ℤ). k +ℤ pos 1) p ∙ +ℤ_one v

@@ -6,7 +6,7 @@ use Rattle.std.specs.Int.{w64}
 use Rattle.std.proofs.Common.{of_z}
 use Rattle.layout.specs.declared.Entry.{Entry}
 use Rattle.layout.specs.declared.Quark.{Quark}
-use Rattle.layout.specs.Layout.{entrySize, entryBytes, read_entry}
+use Rattle.layout.specs.Layout.{entry_size, entry_bytes, read_entry}
 use Rattle.transient.specs.declared.Ongoing.{Ongoing}
 use Rattle.transient.specs.declared.Change.{Change}
 use Rattle.transient.specs.declared.Change.TheVariants.{Set, Remove, Increment}
@@ -16,41 +16,41 @@ use Rattle.transient.specs.declared.Decision.{Decision}
 use Rattle.transient.specs.declared.Decision.TheVariants.{Top, Same, Replaced, Ended}
 
 -- "end u64 (2^64-1 while open)": the end of what is ongoing
-abbrev pub ongoingEnd : ℕ
-ongoingEnd = 18446744073709551615
+abbrev pub ongoing_end : ℕ
+ongoing_end = 18446744073709551615
 
 -- two i64 are equal when their 64 bits are
-abbrev pub sameValue : ℤ → ℤ → Bool
-sameValue v w = of_z w64 v == of_z w64 w
+abbrev pub same_value : ℤ → ℤ → Bool
+same_value v w = of_z w64 v == of_z w64 w
 
 -- "kind 0 (value 0) or 1": of an ongoing entry and of R6
-unfoldable pub stateSound : ℕ → ℤ → Bool
-stateSound kind value = (kind == 0 && sameValue value (pos 0)) || kind == 1
+unfoldable pub state_sound : ℕ → ℤ → Bool
+state_sound kind value = (kind == 0 && same_value value (pos 0)) || kind == 1
 
 -- ═══ The lent table: 32 bytes an entry, in the layout of a node's interval entry ═══
 
 -- where the entry of a quark stands
 abbrev pub table_at : ℕ → ℕ
-table_at q = q * entrySize
+table_at q = q * entry_size
 
 -- "Every attribute has an ongoing kind, value and start in a lent table": these three are read of its entry
-unfoldable pub ongoingAt : List ℕ → ℕ → Ongoing
-ongoingAt l q = let e = read_entry l (table_at q) in record { kind = e.kind; value = e.value; start = e.start }
+unfoldable pub ongoing_at : List ℕ → ℕ → Ongoing
+ongoing_at l q = let e = read_entry l (table_at q) in record { kind = e.kind; value = e.value; start = e.start }
 
 -- an attribute's state as an interval with this end
 unfoldable pub interval : Quark → Ongoing → ℕ → Entry
 interval q o end = record { quark = q; kind = o.kind; start = o.start; end = end; value = o.value }
 
-unfoldable pub withOngoing : List ℕ → Quark → Ongoing → List ℕ
-withOngoing l q o = sets l (table_at q.0) (entryBytes (interval q o ongoingEnd))
+unfoldable pub with_ongoing : List ℕ → Quark → Ongoing → List ℕ
+with_ongoing l q o = sets l (table_at q.0) (entry_bytes (interval q o ongoing_end))
 
 -- "At opening, and when added later, it is null from the history's start."
 unfoldable pub begins : ℕ → Ongoing
 begins start = record { kind = 0; value = pos 0; start = start }
 
 -- "An ongoing entry is sound when its kind is 0 (value 0) or 1 and its start lies between start and latest."
-unfoldable pub ongoingSound : Ongoing → ℕ → ℕ → Bool
-ongoingSound o start latest = stateSound o.kind o.value && nat_le start o.start && nat_le o.start latest
+unfoldable pub ongoing_sound : Ongoing → ℕ → ℕ → Bool
+ongoing_sound o start latest = state_sound o.kind o.value && nat_le start o.start && nat_le o.start latest
 
 -- ═══ A change ═══
 
@@ -65,15 +65,15 @@ becomes Remove kind value = To 0 (pos 0)
 becomes Increment kind value = increased kind value
 
 -- "If kind and value equal the ongoing ones, nothing else happens."
-unfoldable pub sameState : ℕ → ℤ → Ongoing → Bool
-sameState kind value o = kind == o.kind && sameValue value o.value
+unfoldable pub same_state : ℕ → ℤ → Ongoing → Bool
+same_state kind value o = kind == o.kind && same_value value o.value
 
 -- "If the ongoing start is t, the value is replaced and nothing is stored. Otherwise the interval from the ongoing start to t-1, ends included, is stored
 -- and the new state is ongoing from t."
 unfoldable pub decided : Outcome → Ongoing → ℕ → Decision
 decided Above o t = Top
 decided (To kind value) o t =
-    let next : Ongoing = record { kind = kind; value = value; start = t } in cond (sameState kind value o) Same (cond (o.start == t) (Replaced next) (Ended next))
+    let next : Ongoing = record { kind = kind; value = value; start = t } in cond (same_state kind value o) Same (cond (o.start == t) (Replaced next) (Ended next))
 
 unfoldable pub decide : Ongoing → ℕ → Change → Decision
 decide o t change = decided (becomes change o.kind o.value) o t

@@ -9,33 +9,33 @@ use Rattle.walk.specs.declared.Rule.TheVariants.{Kept, R1, R2, R3, R4, R5}
 use Rattle.walk.specs.Rules.{r1, r2, r3, r4, r5, broken, kept}
 
 module _ (v : View) (w : Walk) (level : ℕ) (h : Header) where
-  pub broken-1 : not (eqb h.sequence.0 w.place.0 && ltb h.sequence.0 v.used) ≡ true → R1 ≡ broken v w level h
+  pub broken_1 : not (eqb h.sequence.0 w.place.0 && ltb h.sequence.0 v.used) ≡ true → R1 ≡ broken v w level h
   unfolding broken r1
-  broken-1 a = rw (not-true (r1 v w h) a)
+  broken_1 a = rw (not-true (r1 v w h) a)
 
   module _ (a : not (eqb h.sequence.0 w.place.0 && ltb h.sequence.0 v.used) ≡ false) where
-    pub broken-2 : (h.level ≡ level → ⊥) → R2 ≡ broken v w level h
+    pub broken_2 : (h.level ≡ level → ⊥) → R2 ≡ broken v w level h
     unfolding broken r1 r2
-    broken-2 b = rw (not-false (r1 v w h) a, ne_eqb h.level level b)
+    broken_2 b = rw (not-false (r1 v w h) a, ne_eqb h.level level b)
 
     module _ (b : h.level ≡ level) where
-      pub broken-3 : not (leb h.start h.end && (eqb h.state 1 || eqb h.state 2)) ≡ true → R3 ≡ broken v w level h
+      pub broken_3 : not (leb h.start h.end && (eqb h.state 1 || eqb h.state 2)) ≡ true → R3 ≡ broken v w level h
       unfolding broken r1 r2 r3
-      broken-3 d = rw (not-false (r1 v w h) a, eq-eqb h.level level b, not-true (r3 h) d)
+      broken_3 d = rw (not-false (r1 v w h) a, eq-eqb h.level level b, not-true (r3 h) d)
 
       module _ (d : not (leb h.start h.end && (eqb h.state 1 || eqb h.state 2)) ≡ false) where
-        pub broken-4 : not (leb h.intervals v.shape.k && leb h.children v.shape.c && (not (eqb h.level 0) || eqb h.children 0)) ≡ true → R4 ≡ broken v w level h
+        pub broken_4 : not (leb h.intervals v.shape.k && leb h.children v.shape.c && (not (eqb h.level 0) || eqb h.children 0)) ≡ true → R4 ≡ broken v w level h
         unfolding broken r1 r2 r3 r4
-        broken-4 f = rw (not-false (r1 v w h) a, eq-eqb h.level level b, not-false (r3 h) d, not-true (r4 v h) f)
+        broken_4 f = rw (not-false (r1 v w h) a, eq-eqb h.level level b, not-false (r3 h) d, not-true (r4 v h) f)
 
         module _ (f : not (leb h.intervals v.shape.k && leb h.children v.shape.c && (not (eqb h.level 0) || eqb h.children 0)) ≡ false) where
-          pub broken-5 : not (w.root || (eqb h.start w.start && leb h.end w.end)) ≡ true → R5 ≡ broken v w level h
+          pub broken_5 : not (w.root || (eqb h.start w.start && leb h.end w.end)) ≡ true → R5 ≡ broken v w level h
           unfolding broken r1 r2 r3 r4 r5
-          broken-5 g = rw (not-false (r1 v w h) a, eq-eqb h.level level b, not-false (r3 h) d, not-false (r4 v h) f, not-true (r5 w h) g)
+          broken_5 g = rw (not-false (r1 v w h) a, eq-eqb h.level level b, not-false (r3 h) d, not-false (r4 v h) f, not-true (r5 w h) g)
 
-          pub broken-none : not (w.root || (eqb h.start w.start && leb h.end w.end)) ≡ false → Kept ≡ broken v w level h
+          pub broken_none : not (w.root || (eqb h.start w.start && leb h.end w.end)) ≡ false → Kept ≡ broken v w level h
           unfolding broken r1 r2 r3 r4 r5
-          broken-none g = rw (not-false (r1 v w h) a, eq-eqb h.level level b, not-false (r3 h) d, not-false (r4 v h) f, not-false (r5 w h) g)
+          broken_none g = rw (not-false (r1 v w h) a, eq-eqb h.level level b, not-false (r3 h) d, not-false (r4 v h) f, not-false (r5 w h) g)
 
 -- ---- tests that hold together
 
@@ -51,8 +51,8 @@ pub and_no : (x y : Bool) → y ≡ false → x && y ≡ false
 and_no true y e = e
 and_no false y e = refl
 
-pub false-is : false ≡ true → ⊥
-false-is e = subst T (sym e) tt
+pub false_is : false ≡ true → ⊥
+false_is e = subst T (sym e) tt
 
 -- ---- the bounds of a header that keeps R3 are in order, its counts, as it keeps R4, within K and C
 
@@ -67,9 +67,9 @@ fits v h d e =
     let f = and_left (leb h.intervals v.shape.k && leb h.children v.shape.c) _ e in
     record { bounds = leb-true _ _ (and_left _ _ d); intervals = leb-true _ _ (and_left _ _ f); children = leb-true _ _ (and_right (leb h.intervals v.shape.k) _ f) }
 
-pub kept-fits : (v : View) (w : Walk) (level : ℕ) (h : Header) → kept (broken v w level h) ≡ true → Fitting v h
+pub kept_fits : (v : View) (w : Walk) (level : ℕ) (h : Header) → kept (broken v w level h) ≡ true → Fitting v h
 unfolding broken
-kept-fits v w level h e = go (r1 v w h) (r2 level h) (r3 h) (r4 v h) (r5 w h) refl refl e
+kept_fits v w level h e = go (r1 v w h) (r2 level h) (r3 h) (r4 v h) (r5 w h) refl refl e
   where
     go : (a b d e f : Bool) → r3 h ≡ d → r4 v h ≡ e → kept (cond a (cond b (cond d (cond e (cond f Kept R5) R4) R3) R2) R1) ≡ true → Fitting v h
     go true true true true f z y x = fits v h z y
@@ -78,5 +78,5 @@ kept-fits v w level h e = go (r1 v w h) (r2 level h) (r3 h) (r4 v h) (r5 w h) re
     go true false d e f z y x = absurd (subst T (sym x) tt)
     go false b d e f z y x = absurd (subst T (sym x) tt)
 
-pub broken-fits : (v : View) (w : Walk) (level : ℕ) (h : Header) (rule : Rule) (x : Bool) → rule ≡ broken v w level h → x ≡ kept rule → not x ≡ false → Fitting v h
-broken-fits v w level h rule x is good n = kept-fits v w level h (ap kept (sym is) ∙ sym good ∙ not-false x n)
+pub broken_fits : (v : View) (w : Walk) (level : ℕ) (h : Header) (rule : Rule) (x : Bool) → rule ≡ broken v w level h → x ≡ kept rule → not x ≡ false → Fitting v h
+broken_fits v w level h rule x is good n = kept_fits v w level h (ap kept (sym is) ∙ sym good ∙ not-false x n)

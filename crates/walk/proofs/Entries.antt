@@ -4,26 +4,26 @@ use lib.Bits.{bit_or, and_le_l, and_le_r, or_lt, or_add_and}
 use borrow.Author.Tests.{lt-leb, not-false}
 use Rattle.layout.specs.declared.Entry.{Entry}
 use Rattle.layout.specs.declared.Header.{Header}
-use Rattle.transient.specs.Transient.{stateSound}
-use Rattle.transient.proofs.Sound.{kind-bad}
-use Rattle.walk.specs.Rules.{entrySound, covers}
-use Rattle.walk.specs.Since.{since, entryFits, reaches, spans}
+use Rattle.transient.specs.Transient.{state_sound}
+use Rattle.transient.proofs.Sound.{kind_bad}
+use Rattle.walk.specs.Rules.{entry_sound, covers}
+use Rattle.walk.specs.Since.{since, entry_fits, reaches, spans}
 use Rattle.walk.proofs.Broken.{and_left, and_right, and_no}
 
 -- ---- a time counted from a start on
 
 module _ (start x : ℕ) where
-  since-from : start ≤ x → since start x ≡ x - start
+  since_from : start ≤ x → since start x ≡ x - start
   unfolding since
-  since-from h = rw (le-leb start x h)
+  since_from h = rw (le-leb start x h)
 
-  since-before : x < start → since start x ≡ x + 18446744073709551616 - start
+  since_before : x < start → since start x ≡ x + 18446744073709551616 - start
   unfolding since
-  since-before h = rw (lt-leb start x h)
+  since_before h = rw (lt-leb start x h)
 
-  pub since-done : (r : ℕ) → r ≤ 18446744073709551615 → start ≤ 18446744073709551615 → (r + start) % 18446744073709551616 ≡ x → r ≡ since start x
+  pub since_done : (r : ℕ) → r ≤ 18446744073709551615 → start ≤ 18446744073709551615 → (r + start) % 18446744073709551616 ≡ x → r ≡ since start x
   unfolding since
-  since-done r h k e = go (leb start x) refl
+  since_done r h k e = go (leb start x) refl
     where
       go : (b : Bool) → leb start x ≡ b → r ≡ cond b (x - start) (x + 18446744073709551616 - start)
       go true g = let f = leb-true start x g in omega arith
@@ -38,9 +38,9 @@ record Fits (a start end : ℕ) (e : Entry) : Type 0 where
   pub to : e.end ≤ end
 
 module _ (a start end : ℕ) (e : Entry) where
-  fits-facts : entryFits a start end e ≡ true → Fits a start end e
-  unfolding entryFits
-  fits-facts y =
+  fits_facts : entry_fits a start end e ≡ true → Fits a start end e
+  unfolding entry_fits
+  fits_facts y =
       let f = and_left (ltb e.quark.0 a && leb e.start e.end && leb start e.start) _ y in
       let g = and_left (ltb e.quark.0 a && leb e.start e.end) _ f in
       record {
@@ -50,65 +50,65 @@ module _ (a start end : ℕ) (e : Entry) where
         to = leb-true _ _ (and_right (ltb e.quark.0 a && leb e.start e.end && leb start e.start) _ y);
       }
 
-  fits-made : Fits a start end e → true ≡ entryFits a start end e
-  unfolding entryFits
-  fits-made f = rw (lt-ltb e.quark.0 a f.known, le-leb e.start e.end f.order, le-leb start e.start f.from, le-leb e.end end f.to)
+  fits_made : Fits a start end e → true ≡ entry_fits a start end e
+  unfolding entry_fits
+  fits_made f = rw (lt-ltb e.quark.0 a f.known, le-leb e.start e.end f.order, le-leb start e.start f.from, le-leb e.end end f.to)
 
-  fits_not : (Fits a start end e → ⊥) → false ≡ entryFits a start end e
-  fits_not n = go (entryFits a start end e) refl
+  fits_not : (Fits a start end e → ⊥) → false ≡ entry_fits a start end e
+  fits_not n = go (entry_fits a start end e) refl
     where
-      go : (b : Bool) → entryFits a start end e ≡ b → false ≡ b
-      go true y = absurd (n (fits-facts y))
+      go : (b : Bool) → entry_fits a start end e ≡ b → false ≡ b
+      go true y = absurd (n (fits_facts y))
       go false y = refl
 
-  pub fits-end : end < e.end → false ≡ entryFits a start end e
-  fits-end h = fits_not (λ f. omega (arith, f.to))
+  pub fits_end : end < e.end → false ≡ entry_fits a start end e
+  fits_end h = fits_not (λ f. omega (arith, f.to))
 
-  pub fits-start : e.start < start → false ≡ entryFits a start end e
-  fits-start h = fits_not (λ f. omega (arith, f.from))
+  pub fits_start : e.start < start → false ≡ entry_fits a start end e
+  fits_start h = fits_not (λ f. omega (arith, f.from))
 
-  pub fits_last : e.quark.0 < a → e.end ≤ end → start ≤ e.start → leb e.start e.end ≡ entryFits a start end e
-  unfolding entryFits
+  pub fits_last : e.quark.0 < a → e.end ≤ end → start ≤ e.start → leb e.start e.end ≡ entry_fits a start end e
+  unfolding entry_fits
   fits_last known to from = go (leb e.start e.end) refl
     where
-      go : (b : Bool) → leb e.start e.end ≡ b → b ≡ entryFits a start end e
-      go true y = fits-made (record { known = known; order = leb-true e.start e.end y; from = from; to = to })
+      go : (b : Bool) → leb e.start e.end ≡ b → b ≡ entry_fits a start end e
+      go true y = fits_made (record { known = known; order = leb-true e.start e.end y; from = from; to = to })
       go false y = let l = leb-false e.start e.end y in fits_not (λ f. omega (arith, f.order))
 
-  pub fits-quark : a ≤ e.quark.0 → false ≡ entryFits a start end e
-  fits-quark h = fits_not (λ f. omega (arith, f.known))
+  pub fits_quark : a ≤ e.quark.0 → false ≡ entry_fits a start end e
+  fits_quark h = fits_not (λ f. omega (arith, f.known))
 
 module _ (a start span : ℕ) (e : Entry) (room : start + span ≤ 18446744073709551615) (last : e.end ≤ 18446744073709551615) (to : ℕ) (ends : to ≡ since start e.end) where
-  pub fits-late : span < to → false ≡ entryFits a start (start + span) e
-  fits-late h = fits_not a start (start + span) e (λ f. let g : e.end - start ≡ to = sym (ends ∙ since-from start e.end (omega (arith, f.from, f.order))) in omega (arith, f.to, f.from, f.order))
+  pub fits_late : span < to → false ≡ entry_fits a start (start + span) e
+  fits_late h = fits_not a start (start + span) e (λ f. let g : e.end - start ≡ to = sym (ends ∙ since_from start e.end (omega (arith, f.from, f.order))) in omega (arith, f.to, f.from, f.order))
 
-  pub fits-order : (from : ℕ) → from ≡ since start e.start → e.quark.0 < a → to ≤ span → leb from to ≡ entryFits a start (start + span) e
-  fits-order from starts known h = go (leb from to) refl (leb start e.start) refl (leb start e.end) refl
+  pub fits_order : (from : ℕ) → from ≡ since start e.start → e.quark.0 < a → to ≤ span → leb from to ≡ entry_fits a start (start + span) e
+  fits_order from starts known h = go (leb from to) refl (leb start e.start) refl (leb start e.end) refl
     where
-      go : (b : Bool) → leb from to ≡ b → (u : Bool) → leb start e.start ≡ u → (w : Bool) → leb start e.end ≡ w → b ≡ entryFits a start (start + span) e
+      go : (b : Bool) → leb from to ≡ b → (u : Bool) → leb start e.start ≡ u → (w : Bool) → leb start e.end ≡ w → b ≡ entry_fits a start (start + span) e
       go b y u v false z =
           let l : e.end < start = leb-false start e.end z in
-          let k = since-before start e.end l in
+          let k = since_before start e.end l in
           absurd (omega arith)
       go true y true v true z =
           let l : start ≤ e.end = leb-true start e.end z in
           let n : start ≤ e.start = leb-true start e.start v in
           let o : from ≤ to = leb-true from to y in
-          let k = since-from start e.end l in
-          let m = since-from start e.start n in
-          fits-made a start (start + span) e (record { known = known; order = omega arith; from = n; to = omega arith })
+          let k = since_from start e.end l in
+          let m = since_from start e.start n in
+          fits_made a start (start + span) e (record { known = known; order = omega arith; from = n; to = omega arith })
       go true y false v true z =
           let l : start ≤ e.end = leb-true start e.end z in
           let n : e.start < start = leb-false start e.start v in
           let o : from ≤ to = leb-true from to y in
-          let k = since-from start e.end l in
-          let m = since-before start e.start n in
+          let k = since_from start e.end l in
+          let m = since_before start e.start n in
           absurd (omega arith)
       go false y u v true z =
           let l : start ≤ e.end = leb-true start e.end z in
           let o : to < from = leb-false from to y in
-          let k = since-from start e.end l in
-          fits_not a start (start + span) e (λ f. let m = since-from start e.start f.from in omega (arith, f.order, f.from))
+          let k = since_from start e.end l in
+          fits_not a start (start + span) e (λ f. let m = since_from start e.start f.from in omega (arith, f.order, f.from))
 
 -- ---- its kind and value with those before, bit by bit
 
@@ -118,28 +118,28 @@ or_left a b = omega (arith, or_add_and a b, and_le_r a b)
 or_right : (a b : ℕ) → b ≤ bit_or a b
 or_right a b = omega (arith, or_add_and a b, and_le_l a b)
 
-pub or-small : (a b : ℕ) → leb (bit_or a b) 1 ≡ (leb a 1 && leb b 1)
-or-small a b = go (leb a 1) refl (leb b 1) refl
+pub or_small : (a b : ℕ) → leb (bit_or a b) 1 ≡ (leb a 1 && leb b 1)
+or_small a b = go (leb a 1) refl (leb b 1) refl
   where
     go : (x : Bool) → leb a 1 ≡ x → (y : Bool) → leb b 1 ≡ y → leb (bit_or a b) 1 ≡ (x && y)
     go true f true g = le-leb (bit_or a b) 1 (omega (arith, or_lt 1 a b (omega (arith, leb-true a 1 f)) (omega (arith, leb-true b 1 g))))
     go true f false g = lt-leb (bit_or a b) 1 (omega (arith, or_right a b, leb-false b 1 g))
     go false f y g = lt-leb (bit_or a b) 1 (omega (arith, or_left a b, leb-false a 1 f))
 
-or-zero : (a b : ℕ) → eqb (bit_or a b) 0 ≡ (eqb a 0 && eqb b 0)
-or-zero zero b = refl
-or-zero (suc a) b = ne_eqb (bit_or (suc a) b) 0 (λ z. omega (arith, or_left (suc a) b, z)) ∙ sym (ap (λ (x : Bool). x && eqb b 0) (ne_eqb (suc a) 0 (λ z. omega (arith, z))))
+or_zero : (a b : ℕ) → eqb (bit_or a b) 0 ≡ (eqb a 0 && eqb b 0)
+or_zero zero b = refl
+or_zero (suc a) b = ne_eqb (bit_or (suc a) b) 0 (λ z. omega (arith, or_left (suc a) b, z)) ∙ sym (ap (λ (x : Bool). x && eqb b 0) (ne_eqb (suc a) 0 (λ z. omega (arith, z))))
 
-pub or-null : (before kind x : ℕ) (v : ℤ) → (kind ≤ 1 → eqb x 0 ≡ stateSound kind v) → kind ≤ 1 → eqb (bit_or before x) 0 ≡ (eqb before 0 && stateSound kind v)
-or-null before kind x v is k = or-zero before x ∙ ap (λ (y : Bool). eqb before 0 && y) (is k)
+pub or_null : (before kind x : ℕ) (v : ℤ) → (kind ≤ 1 → eqb x 0 ≡ state_sound kind v) → kind ≤ 1 → eqb (bit_or before x) 0 ≡ (eqb before 0 && state_sound kind v)
+or_null before kind x v is k = or_zero before x ∙ ap (λ (y : Bool). eqb before 0 && y) (is k)
 
 -- the two together
-pub states-more : (nulls nulls' kinds kinds' : ℕ) (e : Entry) → leb kinds' 1 ≡ (leb kinds 1 && leb e.kind 1) → (e.kind ≤ 1 → eqb nulls' 0 ≡ (eqb nulls 0 && stateSound e.kind e.value))
-    → (eqb nulls' 0 && leb kinds' 1) ≡ (eqb nulls 0 && leb kinds 1 && stateSound e.kind e.value)
-states-more nulls nulls' kinds kinds' e k n = go (leb e.kind 1) refl
+pub states_more : (nulls nulls' kinds kinds' : ℕ) (e : Entry) → leb kinds' 1 ≡ (leb kinds 1 && leb e.kind 1) → (e.kind ≤ 1 → eqb nulls' 0 ≡ (eqb nulls 0 && state_sound e.kind e.value))
+    → (eqb nulls' 0 && leb kinds' 1) ≡ (eqb nulls 0 && leb kinds 1 && state_sound e.kind e.value)
+states_more nulls nulls' kinds kinds' e k n = go (leb e.kind 1) refl
   where
     S : Bool
-    S = stateSound e.kind e.value
+    S = state_sound e.kind e.value
 
     swap : (x y s : Bool) → (x && s && (y && true)) ≡ (x && y && s)
     swap true true s = go₁ s
@@ -156,13 +156,13 @@ states-more nulls nulls' kinds kinds' e k n = go (leb e.kind 1) refl
 
     go : (b : Bool) → leb e.kind 1 ≡ b → (eqb nulls' 0 && leb kinds' 1) ≡ (eqb nulls 0 && leb kinds 1 && S)
     go true y = rw (n (leb-true e.kind 1 y), k, y) (swap (eqb nulls 0) (leb kinds 1) S)
-    go false y = rw (k, y, kind-bad e.kind e.value (leb-false e.kind 1 y)) (lost (eqb nulls 0) (leb kinds 1) (eqb nulls' 0))
+    go false y = rw (k, y, kind_bad e.kind e.value (leb-false e.kind 1 y)) (lost (eqb nulls 0) (leb kinds 1) (eqb nulls' 0))
 
 -- ---- R6 of an entry is all of that
 
-pub sound-both : (a : ℕ) (h : Header) (e : Entry) → entrySound a h e ≡ (entryFits a h.start h.end e && stateSound e.kind e.value)
-unfolding entrySound entryFits
-sound-both a h e = go (ltb e.quark.0 a) (stateSound e.kind e.value) (leb e.start e.end) (leb h.start e.start) (leb e.end h.end)
+pub sound_both : (a : ℕ) (h : Header) (e : Entry) → entry_sound a h e ≡ (entry_fits a h.start h.end e && state_sound e.kind e.value)
+unfolding entry_sound entry_fits
+sound_both a h e = go (ltb e.quark.0 a) (state_sound e.kind e.value) (leb e.start e.end) (leb h.start e.start) (leb e.end h.end)
   where
     go : (q s o f t : Bool) → (q && s && o && f && t) ≡ (q && o && f && t && s)
     go false s o f t = refl
@@ -175,28 +175,28 @@ sound-both a h e = go (ltb e.quark.0 a) (stateSound e.kind e.value) (leb e.start
 
 -- ---- an entry that fits covers t
 
-reaches-covers : (t : ℕ) (e : Entry) → e.start ≤ e.end → e.end ≤ 18446744073709551615 → reaches t e ≡ covers t e
+reaches_covers : (t : ℕ) (e : Entry) → e.start ≤ e.end → e.end ≤ 18446744073709551615 → reaches t e ≡ covers t e
 unfolding reaches covers
-reaches-covers t e order last = ap (leb (since e.start t)) (since-from e.start e.end order) ∙ go (leb e.start t) refl
+reaches_covers t e order last = ap (leb (since e.start t)) (since_from e.start e.end order) ∙ go (leb e.start t) refl
   where
     go : (b : Bool) → leb e.start t ≡ b → leb (since e.start t) (e.end - e.start) ≡ (b && leb t e.end)
     go true g =
         let h = leb-true e.start t g in
-        ap (λ (x : ℕ). leb x (e.end - e.start)) (since-from e.start t h) ∙ both (leb t e.end) refl
+        ap (λ (x : ℕ). leb x (e.end - e.start)) (since_from e.start t h) ∙ both (leb t e.end) refl
       where
         both : (c : Bool) → leb t e.end ≡ c → leb (t - e.start) (e.end - e.start) ≡ c
         both true k = let l = leb-true t e.end k in le-leb (t - e.start) (e.end - e.start) (omega arith)
         both false k = let l = leb-false t e.end k in let m = leb-true e.start t g in lt-leb (t - e.start) (e.end - e.start) (omega arith)
     go false g =
         let h = leb-false e.start t g in
-        let k = since-before e.start t h in
+        let k = since_before e.start t h in
         lt-leb (since e.start t) (e.end - e.start) (omega arith)
 
-spans-covers : (a start end t now : ℕ) (e : Entry) → Fits a start end e → e.end ≤ 18446744073709551615 → now ≡ since start t → spans start now e ≡ covers t e
+spans_covers : (a start end t now : ℕ) (e : Entry) → Fits a start end e → e.end ≤ 18446744073709551615 → now ≡ since start t → spans start now e ≡ covers t e
 unfolding spans covers
-spans-covers a start end t now e f last is =
-    ap (λ (x : ℕ). leb x now && leb now (since start e.end)) (since-from start e.start f.from)
-    ∙ ap (λ (x : ℕ). leb (e.start - start) now && leb now x) (since-from start e.end (omega (arith, f.from, f.order)))
+spans_covers a start end t now e f last is =
+    ap (λ (x : ℕ). leb x now && leb now (since start e.end)) (since_from start e.start f.from)
+    ∙ ap (λ (x : ℕ). leb (e.start - start) now && leb now x) (since_from start e.end (omega (arith, f.from, f.order)))
     ∙ go (leb start t) refl
   where
     both : (b : Bool) (x y x' y' : ℕ) → leb x y ≡ b → (x ≤ y → x' ≤ y') → (y < x → y' < x') → leb x y ≡ leb x' y'
@@ -206,24 +206,24 @@ spans-covers a start end t now e f last is =
     go : (b : Bool) → leb start t ≡ b → (leb (e.start - start) now && leb now (e.end - start)) ≡ (leb e.start t && leb t e.end)
     go true g =
         let h = leb-true _ _ g in
-        let k : now ≡ t - start = is ∙ since-from start t h in
+        let k : now ≡ t - start = is ∙ since_from start t h in
         ap (λ (x : Bool). x && leb now (e.end - start)) (both (leb (e.start - start) now) (e.start - start) now e.start t refl (λ u. omega (arith, f.from)) (λ u. omega (arith, f.from)))
         ∙ ap (λ (x : Bool). leb e.start t && x) (both (leb now (e.end - start)) now (e.end - start) t e.end refl (λ u. omega (arith, f.from, f.order)) (λ u. omega (arith, f.from, f.order)))
     go false g =
         let h = leb-false _ _ g in
-        let k : now ≡ t + 18446744073709551616 - start = is ∙ since-before start t h in
+        let k : now ≡ t + 18446744073709551616 - start = is ∙ since_before start t h in
         and_no (leb (e.start - start) now) _ (lt-leb now (e.end - start) (omega (arith, f.from, f.order)))
         ∙ sym (ap (λ (x : Bool). x && leb t e.end) (lt-leb e.start t (omega (arith, f.from))))
 
-module _ (a start end : ℕ) (e : Entry) (f : Bool) (gives : f ≡ entryFits a start end e) (y : not f ≡ false) where
+module _ (a start end : ℕ) (e : Entry) (f : Bool) (gives : f ≡ entry_fits a start end e) (y : not f ≡ false) where
   fitting : Fits a start end e
-  fitting = fits-facts a start end e (sym gives ∙ not-false f y)
+  fitting = fits_facts a start end e (sym gives ∙ not-false f y)
 
-  pub known-quark : e.quark.0 < a
-  known-quark = fitting.known
+  pub known_quark : e.quark.0 < a
+  known_quark = fitting.known
 
-  pub covers-told : (t : ℕ) (b : Bool) → e.end ≤ 18446744073709551615 → b ≡ reaches t e → b ≡ covers t e
-  covers-told t b last r = r ∙ reaches-covers t e fitting.order last
+  pub covers_told : (t : ℕ) (b : Bool) → e.end ≤ 18446744073709551615 → b ≡ reaches t e → b ≡ covers t e
+  covers_told t b last r = r ∙ reaches_covers t e fitting.order last
 
-  pub spans-told : (t now : ℕ) → e.end ≤ 18446744073709551615 → now ≡ since start t → (b : Bool) → b ≡ spans start now e → b ≡ covers t e
-  spans-told t now last is b r = r ∙ spans-covers a start end t now e fitting last is
+  pub spans_told : (t now : ℕ) → e.end ≤ 18446744073709551615 → now ≡ since start t → (b : Bool) → b ≡ spans start now e → b ≡ covers t e
+  spans_told t now last is b r = r ∙ spans_covers a start end t now e fitting last is

@@ -1,14 +1,14 @@
 -- The loop of a question's walk, which finds the way down from a node before it looks at the node's entries: each way through a turn. Assumes nothing.
 use Rattle.std.proofs.Common.{◌≡◌, ℕ, ◌+◌, ◌-◌, ◌<◌, ◌≤◌, Bool, true, false, not, List, sym, refl, ap, ◌∙◌, arith}
 use Rattle.layout.specs.declared.Header.{Header}
-use Rattle.layout.specs.Layout.{entry_at, readHeader}
+use Rattle.layout.specs.Layout.{entry_at, read_header}
 use Rattle.walk.specs.declared.View.{View}
 use Rattle.walk.specs.declared.Walk.{Walk}
 use Rattle.walk.specs.declared.Rule.{Rule}
 use Rattle.walk.specs.View.{Roomy}
 use Rattle.walk.specs.Rules.{broken, kept}
-use Rattle.walk.specs.Walk.{place_of, rootOf, allSound, descend, step, walk, walk_of}
-use Rattle.walk.proofs.Walks.{descend-keeps, descend-entered, step-bad, step_past, step-unsound, step_down, walk-stop, walk_turn, walk-bad}
+use Rattle.walk.specs.Walk.{place_of, root_of, all_sound, descend, step, walk, walk_of}
+use Rattle.walk.proofs.Walks.{descend_keeps, descend_entered, step_bad, step_past, step_unsound, step_down, walk_stop, walk_turn, walk_bad}
 
 -- the walk stands at a node that is to be entered, or has come to its end, where no level is left
 pub record Walking (l : List ℕ) (v : View) (t : ℕ) (w : Walk) (level : ℕ) : Type 0 where
@@ -24,14 +24,14 @@ pub record Reading (l : List ℕ) (v : View) (t : ℕ) (w : Walk) (level p : ℕ
   pub walking : Walking l v t w level
   pub left : 0 < level
   pub at : p ≡ place_of v w.place
-  pub reads : h ≡ readHeader l p
+  pub reads : h ≡ read_header l p
   pub is : rule ≡ broken v w (level - 1) h
   pub good : x ≡ kept rule
 
 module _ (l : List ℕ) (v : View) (t : ℕ) where
-  pub walking-root : (w : Walk) → Roomy v l → w ≡ rootOf v → Walking l v t w (v.level + 1)
-  unfolding rootOf walk_of
-  walking-root w roomy e = rw e record {
+  pub walking_root : (w : Walk) → Roomy v l → w ≡ root_of v → Walking l v t w (v.level + 1)
+  unfolding root_of walk_of
+  walking_root w roomy e = rw e record {
     going = λ z. refl;
     used = λ z. roomy.root;
     kept = refl;
@@ -43,45 +43,45 @@ module _ (l : List ℕ) (v : View) (t : ℕ) where
   -- ---- the end
 
   module _ (w : Walk) (level : ℕ) (inv : Walking l v t w level) (none : level ≤ 0) where
-    pub walking-ends : walk_of l v t ≡ w
+    pub walking_ends : walk_of l v t ≡ w
     unfolding walk
-    walking-ends = let e : level ≡ 0 = omega arith in inv.ends ∙ ap (λ (k : ℕ). walk l v t k w) e
+    walking_ends = let e : level ≡ 0 = omega arith in inv.ends ∙ ap (λ (k : ℕ). walk l v t k w) e
 
-    pub walking-kept : kept (walk_of l v t).rule ≡ true
-    walking-kept = ap (λ (r : Walk). kept r.rule) walking-ends ∙ inv.kept
+    pub walking_kept : kept (walk_of l v t).rule ≡ true
+    walking_kept = ap (λ (r : Walk). kept r.rule) walking_ends ∙ inv.kept
 
   -- ---- a turn
 
   module _ (w : Walk) (level p : ℕ) (h : Header) (rule : Rule) (x : Bool) (r : Reading l v t w level p h rule x) where
     damaged : kept (step l v t (level - 1) w).rule ≡ false → kept (walk_of l v t).rule ≡ false
-    damaged bad = ap (λ (y : Walk). kept y.rule) r.walking.ends ∙ walk-bad l v t level w r.left (r.walking.going r.left) bad
+    damaged bad = ap (λ (y : Walk). kept y.rule) r.walking.ends ∙ walk_bad l v t level w r.left (r.walking.going r.left) bad
 
-    pub walking-bad : not x ≡ true → kept (walk_of l v t).rule ≡ false
-    walking-bad n = damaged (step-bad l v t (level - 1) w p h rule x r.at r.reads r.is r.good n)
+    pub walking_bad : not x ≡ true → kept (walk_of l v t).rule ≡ false
+    walking_bad n = damaged (step_bad l v t (level - 1) w p h rule x r.at r.reads r.is r.good n)
 
     module _ (n : not x ≡ false) where
-      pub walking-past : (g : Walk) → g ≡ descend l v t h p w → kept g.rule ≡ false → kept (walk_of l v t).rule ≡ false
-      walking-past g down bad = damaged (step_past l v t (level - 1) w p h rule x r.at r.reads r.is r.good n (ap (λ (y : Walk). kept y.rule) (sym down) ∙ bad))
+      pub walking_past : (g : Walk) → g ≡ descend l v t h p w → kept g.rule ≡ false → kept (walk_of l v t).rule ≡ false
+      walking_past g down bad = damaged (step_past l v t (level - 1) w p h rule x r.at r.reads r.is r.good n (ap (λ (y : Walk). kept y.rule) (sym down) ∙ bad))
 
-      module _ (first : ℕ) (b : Bool) (from : first ≡ entry_at v.shape 0) (sound : b ≡ allSound l v.attributes h (p + first) h.intervals true) where
-        pub walking-unsound : not b ≡ true → kept (walk_of l v t).rule ≡ false
-        walking-unsound m = damaged (step-unsound l v t (level - 1) w p h rule x r.at r.reads r.is r.good n first b from sound m)
+      module _ (first : ℕ) (b : Bool) (from : first ≡ entry_at v.shape 0) (sound : b ≡ all_sound l v.attributes h (p + first) h.intervals true) where
+        pub walking_unsound : not b ≡ true → kept (walk_of l v t).rule ≡ false
+        walking_unsound m = damaged (step_unsound l v t (level - 1) w p h rule x r.at r.reads r.is r.good n first b from sound m)
 
         -- its entries are sound, and no rule is broken on the way down to g
         module _ (m : not b ≡ false) (g : Walk) (down : g ≡ descend l v t h p w) (k : kept g.rule ≡ true) where
-          pub walking-onto : step l v t (level - 1) w ≡ g
-          walking-onto = step_down l v t (level - 1) w p h rule x r.at r.reads r.is r.good n first b from sound m ∙ sym down
+          pub walking_onto : step l v t (level - 1) w ≡ g
+          walking_onto = step_down l v t (level - 1) w p h rule x r.at r.reads r.is r.good n first b from sound m ∙ sym down
 
           counted : g.entered ≡ w.entered + 1
-          counted = ap (λ (y : Walk). y.entered) down ∙ descend-entered l v t h p w
+          counted = ap (λ (y : Walk). y.entered) down ∙ descend_entered l v t h p w
 
           ends_next : walk_of l v t ≡ walk l v t (level - 1) g
-          ends_next = r.walking.ends ∙ walk_turn l v t level w r.left (r.walking.going r.left) ∙ ap (walk l v t (level - 1)) walking-onto
+          ends_next = r.walking.ends ∙ walk_turn l v t level w r.left (r.walking.going r.left) ∙ ap (walk l v t (level - 1)) walking_onto
 
-          pub walking-next : g.go ≡ true → Walking l v t g (level - 1)
-          walking-next e = record {
+          pub walking_next : g.go ≡ true → Walking l v t g (level - 1)
+          walking_next e = record {
             going = λ z. e;
-            used = λ z. (descend-keeps l v t h p w g down).inside e;
+            used = λ z. (descend_keeps l v t h p w g down).inside e;
             kept = k;
             some = omega (arith, counted);
             few = omega (arith, counted, r.walking.few, r.left);
@@ -89,13 +89,13 @@ module _ (l : List ℕ) (v : View) (t : ℕ) where
           }
 
           -- it goes no further: no level is left to it
-          pub walking-last : g.go ≡ false → Walking l v t g 0
+          pub walking_last : g.go ≡ false → Walking l v t g 0
           unfolding walk
-          walking-last e = record {
+          walking_last e = record {
             going = λ z. absurd (omega arith);
             used = λ z. absurd (omega arith);
             kept = k;
             some = omega (arith, counted);
             few = omega (arith, counted, r.walking.few, r.left);
-            ends = ends_next ∙ sym (walk-stop l v t (level - 1) g e);
+            ends = ends_next ∙ sym (walk_stop l v t (level - 1) g e);
           }

@@ -2,7 +2,7 @@
 use Rattle.std.specs.Prelude.{ℕ, Bool, true, false, cond, not, ◌&&◌, ◌||◌, ◌==◌, nat_le, nat_lt}
 use Rattle.layout.specs.declared.Header.{Header}
 use Rattle.layout.specs.declared.Entry.{Entry}
-use Rattle.transient.specs.Transient.{stateSound}
+use Rattle.transient.specs.Transient.{state_sound}
 use Rattle.walk.specs.declared.View.{View}
 use Rattle.walk.specs.declared.Walk.{Walk}
 use Rattle.walk.specs.declared.Rule.{Rule}
@@ -42,9 +42,9 @@ kept R5 = false
 kept R6 = false
 
 -- "R6 each used interval has a known quark, kind 0 (value 0) or 1, start not after end, inside the node"
-unfoldable pub entrySound : ℕ → Header → Entry → Bool
-entrySound attributes h e =
-    nat_lt e.quark.0 attributes && stateSound e.kind e.value && nat_le e.start e.end && nat_le h.start e.start && nat_le e.end h.end
+unfoldable pub entry_sound : ℕ → Header → Entry → Bool
+entry_sound attributes h e =
+    nat_lt e.quark.0 attributes && state_sound e.kind e.value && nat_le e.start e.end && nat_le h.start e.start && nat_le e.end h.end
 
 -- a node's bounds hold t: "An open node holds every t from its start."
 unfoldable pub holds : ℕ → Header → Bool

@@ -7,8 +7,8 @@ unfoldable pub since : ℕ → ℕ → ℕ
 since start x = cond (nat_le start x) (x - start) (x + 18446744073709551616 - start)
 
 -- R6 of an entry but for its kind and value, in a node with these bounds
-unfoldable pub entryFits : ℕ → ℕ → ℕ → Entry → Bool
-entryFits attributes start end e = nat_lt e.quark.0 attributes && nat_le e.start e.end && nat_le start e.start && nat_le e.end end
+unfoldable pub entry_fits : ℕ → ℕ → ℕ → Entry → Bool
+entry_fits attributes start end e = nat_lt e.quark.0 attributes && nat_le e.start e.end && nat_le start e.start && nat_le e.end end
 
 -- t counted from the entry's own start on is no further than its end: what is before the start comes out behind it
 unfoldable pub reaches : ℕ → Entry → Bool

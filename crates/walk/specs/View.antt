@@ -1,9 +1,9 @@
 -- What a question knows of a history besides its bytes.
 use Rattle.std.specs.Prelude.{ℕ, ◌*◌, ◌/◌, ◌<◌, ◌≤◌, Bool, ◌&&◌, ◌||◌, List, length, nat_le, nat_lt}
-use Rattle.layout.specs.Layout.{nodeSize, entrySize}
+use Rattle.layout.specs.Layout.{node_size, entry_size}
 use Rattle.record.specs.Record.{History}
-use Rattle.record.specs.Levels.{seqAt}
-use Rattle.record.specs.Sound.{lastTime, shapeAllowed}
+use Rattle.record.specs.Levels.{seq_at}
+use Rattle.record.specs.Sound.{last_time, shape_allowed}
 use Rattle.record.specs.Firm.{Shaped}
 use Rattle.walk.specs.declared.View.{View}
 
@@ -15,18 +15,18 @@ view_of h = record {
   latest = h.latest;
   attributes = h.attributes;
   used = h.used;
-  root = seqAt h.branch h.top;
+  root = seq_at h.branch h.top;
   level = h.top;
   finished = h.finished;
 }
 
 -- "A record is sound when its shape is allowed, numbers are within limits, the used count 1 to N, .. start is at or below latest":
 -- what of it can be tested on the numbers of an exported question, with the root's place below the used count
-unfoldable pub viewSound : View → Bool
-viewSound v =
-    shapeAllowed v.shape
+unfoldable pub view_sound : View → Bool
+view_sound v =
+    shape_allowed v.shape
     && nat_le v.attributes 4096
-    && nat_le v.latest lastTime
+    && nat_le v.latest last_time
     && nat_le v.start v.latest
     && nat_le 1 v.used
     && nat_le v.used v.shape.n
@@ -34,8 +34,8 @@ viewSound v =
     && nat_lt v.root.0 v.used
 
 -- "nodes under N times size, table under the attribute count (not once finished)": neither is the case
-unfoldable pub longFor : View → ℕ → ℕ → Bool
-longFor v nodes table = nat_le (v.shape.n * nodeSize v.shape) nodes && (v.finished || nat_le v.attributes (table / entrySize))
+unfoldable pub long_for : View → ℕ → ℕ → Bool
+long_for v nodes table = nat_le (v.shape.n * node_size v.shape) nodes && (v.finished || nat_le v.attributes (table / entry_size))
 
 -- "in a query, before start or after latest" is refused
 unfoldable pub asked : View → ℕ → Bool
@@ -48,4 +48,4 @@ pub record Roomy (v : View) (l : List ℕ) : Type 0 where
   pub used : v.used ≤ v.shape.n
   pub level : v.level ≤ 15
   pub root : v.root.0 < v.used
-  pub room : v.shape.n * nodeSize v.shape ≤ length l
+  pub room : v.shape.n * node_size v.shape ≤ length l

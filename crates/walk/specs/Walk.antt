@@ -3,22 +3,22 @@ use Rattle.std.specs.Prelude.{ℕ, zero, suc, ◌+◌, ◌-◌, ◌*◌, Bool, t
 use Rattle.layout.specs.declared.Child.{Child}
 use Rattle.layout.specs.declared.Header.{Header}
 use Rattle.layout.specs.declared.Seq.{Seq}
-use Rattle.layout.specs.Layout.{child_size, entrySize, nodeSize, childAt, entry_at, readHeader, readChild, read_entry}
+use Rattle.layout.specs.Layout.{child_size, entry_size, node_size, child_at, entry_at, read_header, read_child, read_entry}
 use Rattle.walk.specs.declared.View.{View}
 use Rattle.walk.specs.declared.Walk.{Walk}
 use Rattle.walk.specs.declared.Rule.{Rule}
 use Rattle.walk.specs.declared.Rule.TheVariants.{Kept, R1, R6}
-use Rattle.walk.specs.Rules.{broken, kept, entrySound, holds}
+use Rattle.walk.specs.Rules.{broken, kept, entry_sound, holds}
 
 -- "Node i stands at i times the node size."
 abbrev pub place_of : View → Seq → ℕ
-place_of v s = s.0 * nodeSize v.shape
+place_of v s = s.0 * node_size v.shape
 
 -- ═══ Where a walk stands ═══
 
 -- at the root
-unfoldable pub rootOf : View → Walk
-rootOf v = record { go = true; rule = Kept; place = v.root; root = true; start = 0; end = 0; entered = 0 }
+unfoldable pub root_of : View → Walk
+root_of v = record { go = true; rule = Kept; place = v.root; root = true; start = 0; end = 0; entered = 0 }
 
 -- it has ended: well (`Kept`), or since the node at `place` breaks a rule
 unfoldable pub ended : Walk → Rule → Seq → Walk
@@ -35,42 +35,42 @@ onward w c end = record { go = true; rule = Kept; place = c.sequence; root = fal
 -- ═══ One node ═══
 
 -- R6 of the n entries from byte p on; b: of those before
-unfoldable pub allSound : List ℕ → ℕ → Header → ℕ → ℕ → Bool → Bool
-allSound l attributes h p zero b = b
-allSound l attributes h p (suc n) b = allSound l attributes h (p + entrySize) n (b && entrySound attributes h (read_entry l p))
+unfoldable pub all_sound : List ℕ → ℕ → Header → ℕ → ℕ → Bool → Bool
+all_sound l attributes h p zero b = b
+all_sound l attributes h p (suc n) b = all_sound l attributes h (p + entry_size) n (b && entry_sound attributes h (read_entry l p))
 
 -- "take the last child entry with start at or below t": of the n entries from byte p on, the first of them the i-th, one more than the number of the last
 -- by position, else k
 unfoldable pub pick : List ℕ → ℕ → ℕ → ℕ → ℕ → ℕ → ℕ
 pick l t p i zero k = k
-pick l t p i (suc n) k = pick l t (p + child_size) (i + 1) n (cond (nat_le (readChild l p).start t) (i + 1) k)
+pick l t p i (suc n) k = pick l t (p + child_size) (i + 1) n (cond (nat_le (read_child l p).start t) (i + 1) k)
 
 -- "and go on if that child's bounds hold t": "a child's place is tested against the used count before its header is read"
 unfoldable pub child : List ℕ → View → ℕ → ℕ → Child → Walk → Walk
 child l v t end c w =
     cond (nat_lt c.sequence.0 v.used)
-    (cond (holds t (readHeader l (place_of v c.sequence))) (onward w c end) (ended w Kept w.place))
+    (cond (holds t (read_header l (place_of v c.sequence))) (onward w c end) (ended w Kept w.place))
     (ended w R1 c.sequence)
 
 -- down from the node with header h at byte p to the k-th of its children, 0 for none
-unfoldable pub downTo : List ℕ → View → ℕ → Header → ℕ → ℕ → Walk → Walk
-downTo l v t h p k w = cond (k == 0) (ended w Kept w.place) (child l v t h.end (readChild l (p + childAt (k - 1))) w)
+unfoldable pub down_to : List ℕ → View → ℕ → Header → ℕ → ℕ → Walk → Walk
+down_to l v t h p k w = cond (k == 0) (ended w Kept w.place) (child l v t h.end (read_child l (p + child_at (k - 1))) w)
 
 -- the node at byte p was entered and its intervals looked at
 unfoldable pub descend : List ℕ → View → ℕ → Header → ℕ → Walk → Walk
-descend l v t h p w = downTo l v t h p (pick l t (p + childAt 0) 0 h.children 0) (counted w)
+descend l v t h p w = down_to l v t h p (pick l t (p + child_at 0) 0 h.children 0) (counted w)
 
 -- R6 of all its entries, then down
 unfoldable pub inside : List ℕ → View → ℕ → Header → ℕ → Walk → Walk
 inside l v t h p w =
-    cond (allSound l v.attributes h (p + entry_at v.shape 0) h.intervals true) (descend l v t h p w) (ended w R6 w.place)
+    cond (all_sound l v.attributes h (p + entry_at v.shape 0) h.intervals true) (descend l v t h p w) (ended w R6 w.place)
 
 -- the node with header h at byte p, of which `level` is due, is entered: R1 to R5, then inside
 unfoldable pub enter : List ℕ → View → ℕ → ℕ → Header → ℕ → Walk → Walk
 enter l v t level h p w = cond (kept (broken v w level h)) (inside l v t h p w) (ended w (broken v w level h) w.place)
 
 unfoldable pub step : List ℕ → View → ℕ → ℕ → Walk → Walk
-step l v t level w = enter l v t level (readHeader l (place_of v w.place)) (place_of v w.place) w
+step l v t level w = enter l v t level (read_header l (place_of v w.place)) (place_of v w.place) w
 
 -- ═══ All of them ═══
 
@@ -81,4 +81,4 @@ walk l v t (suc n) w = cond w.go (walk l v t n (step l v t n w)) w
 
 -- the root is always entered, and at most one node a level
 unfoldable pub walk_of : List ℕ → View → ℕ → Walk
-walk_of l v t = walk l v t (v.level + 1) (rootOf v)
+walk_of l v t = walk l v t (v.level + 1) (root_of v)

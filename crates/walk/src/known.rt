@@ -1,16 +1,16 @@
 // What a question knows of a history besides its bytes.
 ghost use Rattle.std.specs.Prelude.{◌≡◌, ◌<◌, ◌≤◌, true};
-ghost use Rattle.layout.specs.Layout.{nodeSize};
-ghost use Rattle.record.specs.Record.{recordOf};
+ghost use Rattle.layout.specs.Layout.{node_size};
+ghost use Rattle.record.specs.Record.{record_of};
 ghost use Rattle.record.specs.Sound.{sound};
-ghost use Rattle.walk.specs.View.{view_of, viewSound, longFor, asked};
+ghost use Rattle.walk.specs.View.{view_of, view_sound, long_for, asked};
 
 use crate::View;
 use layout::{Seq, Shape};
 
 pub fn view_of(shape: Shape, h: &[u64; 87]) -> View
-    requires { sound (recordOf shape h.now) ≡ true }
-    ensures { result ≡ view_of (recordOf shape h.now) }
+    requires { sound (record_of shape h.now) ≡ true }
+    ensures { result ≡ view_of (record_of shape h.now) }
 {
     let top = h[record::TOP];
     let finished = record::sound::finished(h);
@@ -28,7 +28,7 @@ pub fn view_of(shape: Shape, h: &[u64; 87]) -> View
 
 // The tests of the record that the exported numbers allow.
 pub fn view_sound(v: View) -> bool
-    ensures { result ≡ viewSound v }
+    ensures { result ≡ view_sound v }
 {
     record::sound::shape_allowed(v.shape)
         & (v.attributes <= 4096)
@@ -42,8 +42,8 @@ pub fn view_sound(v: View) -> bool
 
 // "nodes under N times size, table under the attribute count (not once finished)"
 pub fn long_for(v: View, nodes: usize, table: usize) -> bool
-    requires { (v.shape.n ≤ 65536) × (nodeSize v.shape ≤ 65536) }
-    ensures { result ≡ longFor v nodes table }
+    requires { (v.shape.n ≤ 65536) × (node_size v.shape ≤ 65536) }
+    ensures { result ≡ long_for v nodes table }
 {
     record::sound::long_enough(v.shape, v.attributes as u64, v.finished, nodes, table)
 }

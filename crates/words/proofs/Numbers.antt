@@ -9,12 +9,12 @@ use lib.ListN.{length, get_or, set, take, drop, length-set, get_or-append}
 use borrow.Rule.Slice.PartMut.{mid_of}
 use lib.Seq.{sets, length-sets, get_or-set_same, get_or-take, get_or-drop, get_or-append-add, drop-cons}
 use Rattle.words.specs.Words.{le, num}
-use Rattle.words.proofs.Stores.{sets-append, getD-sets-below, getD-sets-above}
+use Rattle.words.proofs.Stores.{sets_append, get_or_sets_below, get_or_sets_above}
 
-pub length-le : (n v : ℕ) → length (le n v) ≡ n
+pub length_le : (n v : ℕ) → length (le n v) ≡ n
 unfolding le
-length-le zero v = refl
-length-le (suc n) v = ap suc (length-le n (v / 256))
+length_le zero v = refl
+length_le (suc n) v = ap suc (length_le n (v / 256))
 
 -- the bytes of two numbers, one behind the other, are the bytes of one
 pub le_join : (n m a b : ℕ) → a < 256 ^ n → le (n + m) (a + 256 ^ n * b) ≡ le n a ++ le m b
@@ -35,8 +35,8 @@ le_join (suc n) m a b h =
     ∙ ap (λ (l : List ℕ). a % 256 ∷ l) (le_join n m (a / 256) b small)
 
 -- a number put in more bytes than it needs has zeros behind it
-pub le-wide : (n m v : ℕ) → v < 256 ^ n → le (n + m) v ≡ le n v ++ le m 0
-le-wide n m v b = ap (λ (k : ℕ). le (n + m) k) (omega arith) ∙ le_join n m v 0 b
+pub le_wide : (n m v : ℕ) → v < 256 ^ n → le (n + m) v ≡ le n v ++ le m 0
+le_wide n m v b = ap (λ (k : ℕ). le (n + m) k) (omega arith) ∙ le_join n m v 0 b
 
 -- a turn of the loop that writes: one store, and what is left to write
 pub put_step : (l : List ℕ) (at i n v : ℕ) → i < n → sets l (at + i) (le (n - i) v) ≡ sets (set l (at + i) (v % 256)) (at + (i + 1)) (le (n - (i + 1)) (v / 256))
@@ -48,14 +48,14 @@ put_step l at i n v h =
     ∙ ap (λ (k : ℕ). sets (set l (at + i) (v % 256)) k (le (n - (i + 1)) (v / 256))) f
 
 -- the loop that writes has nothing left
-pub put-done : (l : List ℕ) (at i n v : ℕ) → n ≤ i → sets l (at + i) (le (n - i) v) ≡ l
+pub put_done : (l : List ℕ) (at i n v : ℕ) → n ≤ i → sets l (at + i) (le (n - i) v) ≡ l
 unfolding le
-put-done l at i n v h = let e : n - i ≡ 0 = omega arith in ap (λ (k : ℕ). sets l (at + i) (le k v)) e
+put_done l at i n v h = let e : n - i ≡ 0 = omega arith in ap (λ (k : ℕ). sets l (at + i) (le k v)) e
 
 -- a turn of the loop that reads, from the last byte to the first
-pub get-step : (l : List ℕ) (at i n : ℕ) → 0 < i → i ≤ n → num l (at + i) (n - i) * 256 + get_or l (at + (i - 1)) 0 ≡ num l (at + (i - 1)) (n - (i - 1))
+pub get_step : (l : List ℕ) (at i n : ℕ) → 0 < i → i ≤ n → num l (at + i) (n - i) * 256 + get_or l (at + (i - 1)) 0 ≡ num l (at + (i - 1)) (n - (i - 1))
 unfolding num
-get-step l at i n h k =
+get_step l at i n h k =
     let e : n - (i - 1) ≡ suc (n - i) = omega arith in
     let f : suc (at + (i - 1)) ≡ at + i = omega arith in
     sym (ap (λ (m : ℕ). num l (at + (i - 1)) m) e
@@ -63,8 +63,8 @@ get-step l at i n h k =
     ∙ omega arith)
 
 -- the same of what a turn has and reads
-pub get-turn : (l : List ℕ) (at i n v x : ℕ) → 0 < i → i ≤ n → v ≡ num l (at + i) (n - i) → x ≡ get_or l (at + (i - 1)) 0 → v * 256 + x ≡ num l (at + (i - 1)) (n - (i - 1))
-get-turn l at i n v x h k p q = cc (get-step l at i n h k)
+pub get_turn : (l : List ℕ) (at i n v x : ℕ) → 0 < i → i ≤ n → v ≡ num l (at + i) (n - i) → x ≡ get_or l (at + (i - 1)) 0 → v * 256 + x ≡ num l (at + (i - 1)) (n - (i - 1))
+get_turn l at i n v x h k p q = cc (get_step l at i n h k)
 
 -- the loop that reads has read nothing
 pub get_none : (l : List ℕ) (at n : ℕ) → (0 ≡ num l (at + n) (n - n)) × (0 < 256 ^ (n - n))
@@ -72,123 +72,123 @@ unfolding num
 get_none l at n = rw sub_self (refl, lit< tt)
 
 -- a turn of it keeps the number within its bytes, and those within eight
-pub get-room : (i n v x : ℕ) → 0 < i → i ≤ n → v < 256 ^ (n - i) → x < 256 → v * 256 + x < 256 ^ (n - (i - 1))
-get-room i n v x h k b y =
+pub get_room : (i n v x : ℕ) → 0 < i → i ≤ n → v < 256 ^ (n - i) → x < 256 → v * 256 + x < 256 ^ (n - (i - 1))
+get_room i n v x h k b y =
     let e : n - (i - 1) ≡ suc (n - i) = omega arith in
     rw (e, pow-suc) (omega arith)
 
-pub within-8 : (n x : ℕ) → n ≤ 8 → x < 256 ^ n → x < 2 ^ 64
-within-8 n x h b = lt_of_lt_of_le b (pow-le-pow_right {n = 256} (lit< tt) h)
+pub within_8 : (n x : ℕ) → n ≤ 8 → x < 256 ^ n → x < 2 ^ 64
+within_8 n x h b = lt_of_lt_of_le b (pow-le-pow_right {n = 256} (lit< tt) h)
 
 -- the same bytes make the same number
-pub num-ext : (l m : List ℕ) (i j n : ℕ) → ((k : ℕ) → k < n → get_or l (i + k) 0 ≡ get_or m (j + k) 0) → num l i n ≡ num m j n
+pub num_ext : (l m : List ℕ) (i j n : ℕ) → ((k : ℕ) → k < n → get_or l (i + k) 0 ≡ get_or m (j + k) 0) → num l i n ≡ num m j n
 unfolding num
-num-ext l m i j zero h = refl
-num-ext l m i j (suc n) h =
+num_ext l m i j zero h = refl
+num_ext l m i j (suc n) h =
     let e : get_or l i 0 ≡ get_or m j 0 = ap (λ (k : ℕ). get_or l k 0) (sym (add-zero i)) ∙ h 0 (omega arith) ∙ ap (λ (k : ℕ). get_or m k 0) (add-zero j) in
     let r : num l (suc i) n ≡ num m (suc j) n =
-    num-ext l m (suc i) (suc j) n
+    num_ext l m (suc i) (suc j) n
     (λ k b. ap (λ (t : ℕ). get_or l t 0) (suc-add i k ∙ sym (add-suc i k)) ∙ h (suc k) (omega arith) ∙ ap (λ (t : ℕ). get_or m t 0) (add-suc j k ∙ sym (suc-add j k)))
     in
     omega arith
 
 -- a run of stores elsewhere leaves a number as it was
-pub num-sets-above : (l : List ℕ) (i : ℕ) (vs : List ℕ) (at n : ℕ) → i + length vs ≤ at → num (sets l i vs) at n ≡ num l at n
-num-sets-above l i vs at n h = num-ext (sets l i vs) l at at n (λ k b. getD-sets-above l i vs (at + k) 0 (omega arith))
+pub num_sets_above : (l : List ℕ) (i : ℕ) (vs : List ℕ) (at n : ℕ) → i + length vs ≤ at → num (sets l i vs) at n ≡ num l at n
+num_sets_above l i vs at n h = num_ext (sets l i vs) l at at n (λ k b. get_or_sets_above l i vs (at + k) 0 (omega arith))
 
-pub num-sets-below : (l : List ℕ) (i : ℕ) (vs : List ℕ) (at n : ℕ) → at + n ≤ i → num (sets l i vs) at n ≡ num l at n
-num-sets-below l i vs at n h = num-ext (sets l i vs) l at at n (λ k b. getD-sets-below l i vs (at + k) 0 (omega arith))
+pub num_sets_below : (l : List ℕ) (i : ℕ) (vs : List ℕ) (at n : ℕ) → at + n ≤ i → num (sets l i vs) at n ≡ num l at n
+num_sets_below l i vs at n h = num_ext (sets l i vs) l at at n (λ k b. get_or_sets_below l i vs (at + k) 0 (omega arith))
 
 -- what was written is read back
-pub num-put : (l : List ℕ) (at n v : ℕ) → at + n ≤ length l → v < 256 ^ n → num (sets l at (le n v)) at n ≡ v
+pub num_put : (l : List ℕ) (at n v : ℕ) → at + n ≤ length l → v < 256 ^ n → num (sets l at (le n v)) at n ≡ v
 unfolding le num
-num-put l at zero v h b = omega (arith, b)
-num-put l at (suc n) v h b =
+num_put l at zero v h b = omega (arith, b)
+num_put l at (suc n) v h b =
     let small : v / 256 < 256 ^ n = (div-lt_iff_lt-mul {k = 256} (omega arith)).1 (subst (λ (p : ℕ). v < p) (pow-suc 256 n) b) in
     let rest : num (sets (set l at (v % 256)) (suc at) (le n (v / 256))) (suc at) n ≡ v / 256 =
-    num-put (set l at (v % 256)) (suc at) n (v / 256) (rw length-set (omega (arith, add-suc at n))) small
+    num_put (set l at (v % 256)) (suc at) n (v / 256) (rw length-set (omega (arith, add-suc at n))) small
     in
     let first : get_or (sets (set l at (v % 256)) (suc at) (le n (v / 256))) at 0 ≡ v % 256 =
-    getD-sets-below (set l at (v % 256)) (suc at) (le n (v / 256)) at 0 (omega arith)
+    get_or_sets_below (set l at (v % 256)) (suc at) (le n (v / 256)) at 0 (omega arith)
     ∙ get_or-set_same l at (v % 256) 0 (omega (arith, add-suc at n))
     in
     omega (arith, div-add-mod' v 256)
 
 -- a number stored between xs and ys is read back
-pub num-field : (l : List ℕ) (at : ℕ) (xs : List ℕ) (n v : ℕ) (ys : List ℕ) → at + length xs + n ≤ length l → v < 256 ^ n → num (sets l at (xs ++ (le n v ++ ys))) (at + length xs) n ≡ v
-num-field l at xs n v ys h b =
+pub num_field : (l : List ℕ) (at : ℕ) (xs : List ℕ) (n v : ℕ) (ys : List ℕ) → at + length xs + n ≤ length l → v < 256 ^ n → num (sets l at (xs ++ (le n v ++ ys))) (at + length xs) n ≡ v
+num_field l at xs n v ys h b =
     ap (λ (m : List ℕ). num m (at + length xs) n)
-    (sets-append l at xs (le n v ++ ys) ∙ sets-append (sets l at xs) (at + length xs) (le n v) ys)
-    ∙ num-sets-below (sets (sets l at xs) (at + length xs) (le n v)) (at + length xs + length (le n v)) ys (at + length xs) n (rw length-le (omega arith))
-    ∙ num-put (sets l at xs) (at + length xs) n v (rw length-sets h) b
+    (sets_append l at xs (le n v ++ ys) ∙ sets_append (sets l at xs) (at + length xs) (le n v) ys)
+    ∙ num_sets_below (sets (sets l at xs) (at + length xs) (le n v)) (at + length xs + length (le n v)) ys (at + length xs) n (rw length_le (omega arith))
+    ∙ num_put (sets l at xs) (at + length xs) n v (rw length-sets h) b
 
 -- and a byte
-pub getD-field : (l : List ℕ) (at : ℕ) (xs : List ℕ) (x : ℕ) (ys : List ℕ) → at + length xs < length l → get_or (sets l at (xs ++ (x ∷ ys))) (at + length xs) 0 ≡ x
-getD-field l at xs x ys h =
-    ap (λ (m : List ℕ). get_or m (at + length xs) 0) (sets-append l at xs (x ∷ ys))
-    ∙ getD-sets-below (set (sets l at xs) (at + length xs) x) (suc (at + length xs)) ys (at + length xs) 0 (omega arith)
+pub get_or_field : (l : List ℕ) (at : ℕ) (xs : List ℕ) (x : ℕ) (ys : List ℕ) → at + length xs < length l → get_or (sets l at (xs ++ (x ∷ ys))) (at + length xs) 0 ≡ x
+get_or_field l at xs x ys h =
+    ap (λ (m : List ℕ). get_or m (at + length xs) 0) (sets_append l at xs (x ∷ ys))
+    ∙ get_or_sets_below (set (sets l at xs) (at + length xs) x) (suc (at + length xs)) ys (at + length xs) 0 (omega arith)
     ∙ get_or-set_same (sets l at xs) (at + length xs) x 0 (rw length-sets h)
 
 -- ---- reading a list that is a part of another, or is made of parts
 
 -- behind the first a bytes
-pub num-drop : (a : ℕ) (l : List ℕ) (at n : ℕ) → num (drop a l) at n ≡ num l (a + at) n
-num-drop a l at n = num-ext (drop a l) l at (a + at) n (λ k b. get_or-drop a l (at + k) 0 ∙ ap (λ (j : ℕ). get_or l j 0) (omega arith))
+pub num_drop : (a : ℕ) (l : List ℕ) (at n : ℕ) → num (drop a l) at n ≡ num l (a + at) n
+num_drop a l at n = num_ext (drop a l) l at (a + at) n (λ k b. get_or-drop a l (at + k) 0 ∙ ap (λ (j : ℕ). get_or l j 0) (omega arith))
 
 -- within the first a bytes
-pub num-take : (a : ℕ) (l : List ℕ) (at n : ℕ) → at + n ≤ a → num (take a l) at n ≡ num l at n
-num-take a l at n h = num-ext (take a l) l at at n (λ k b. get_or-take a l (at + k) 0 (omega arith))
+pub num_take : (a : ℕ) (l : List ℕ) (at n : ℕ) → at + n ≤ a → num (take a l) at n ≡ num l at n
+num_take a l at n h = num_ext (take a l) l at at n (λ k b. get_or-take a l (at + k) 0 (omega arith))
 
 -- within k bytes that were lent from a on
-pub num-part : (a k : ℕ) (l : List ℕ) (at n : ℕ) → at + n ≤ k → num (mid_of a k l) at n ≡ num l (a + at) n
-num-part a k l at n h = num-take k (drop a l) at n h ∙ num-drop a l at n
+pub num_part : (a k : ℕ) (l : List ℕ) (at n : ℕ) → at + n ≤ k → num (mid_of a k l) at n ≡ num l (a + at) n
+num_part a k l at n h = num_take k (drop a l) at n h ∙ num_drop a l at n
 
 -- within the first of two parts
-pub num-left : (xs ys : List ℕ) (at n : ℕ) → at + n ≤ length xs → num (xs ++ ys) at n ≡ num xs at n
-num-left xs ys at n h = num-ext (xs ++ ys) xs at at n (λ k b. get_or-append xs ys 0 (at + k) (omega arith))
+pub num_left : (xs ys : List ℕ) (at n : ℕ) → at + n ≤ length xs → num (xs ++ ys) at n ≡ num xs at n
+num_left xs ys at n h = num_ext (xs ++ ys) xs at at n (λ k b. get_or-append xs ys 0 (at + k) (omega arith))
 
 -- within the second
-pub num-right : (xs ys : List ℕ) (at n : ℕ) → num (xs ++ ys) (length xs + at) n ≡ num ys at n
-num-right xs ys at n = num-ext (xs ++ ys) ys (length xs + at) at n (λ k b. ap (λ (j : ℕ). get_or (xs ++ ys) j 0) (omega arith) ∙ get_or-append-add xs ys (at + k) 0)
+pub num_right : (xs ys : List ℕ) (at n : ℕ) → num (xs ++ ys) (length xs + at) n ≡ num ys at n
+num_right xs ys at n = num_ext (xs ++ ys) ys (length xs + at) at n (λ k b. ap (λ (j : ℕ). get_or (xs ++ ys) j 0) (omega arith) ∙ get_or-append-add xs ys (at + k) 0)
 
 -- a number's bytes, whatever stands behind them
-pub num-le : (n v : ℕ) (ys : List ℕ) → v < 256 ^ n → num (le n v ++ ys) 0 n ≡ v
+pub num_le : (n v : ℕ) (ys : List ℕ) → v < 256 ^ n → num (le n v ++ ys) 0 n ≡ v
 unfolding le num
-num-le zero v ys b = omega (arith, b)
-num-le (suc n) v ys b =
+num_le zero v ys b = omega (arith, b)
+num_le (suc n) v ys b =
     let small : v / 256 < 256 ^ n = (div-lt_iff_lt-mul {k = 256} (omega arith)).1 (subst (λ (p : ℕ). v < p) (pow-suc 256 n) b) in
-    let rest : num (le (suc n) v ++ ys) 1 n ≡ v / 256 = num-right (v % 256 ∷ []) (le n (v / 256) ++ ys) 0 n ∙ num-le n (v / 256) ys small in
+    let rest : num (le (suc n) v ++ ys) 1 n ≡ v / 256 = num_right (v % 256 ∷ []) (le n (v / 256) ++ ys) 0 n ∙ num_le n (v / 256) ys small in
     omega (arith, rest, div-add-mod' v 256)
 
 -- a number whose bytes stand between xs and ys
-pub num-between : (xs : List ℕ) (n v : ℕ) (ys : List ℕ) (p : ℕ) → length xs ≡ p → v < 256 ^ n → num (xs ++ (le n v ++ ys)) p n ≡ v
-num-between xs n v ys p e b =
+pub num_between : (xs : List ℕ) (n v : ℕ) (ys : List ℕ) (p : ℕ) → length xs ≡ p → v < 256 ^ n → num (xs ++ (le n v ++ ys)) p n ≡ v
+num_between xs n v ys p e b =
     ap (λ (k : ℕ). num (xs ++ (le n v ++ ys)) k n) (sym e ∙ sym (add-zero (length xs)))
-    ∙ num-right xs (le n v ++ ys) 0 n
-    ∙ num-le n v ys b
+    ∙ num_right xs (le n v ++ ys) 0 n
+    ∙ num_le n v ys b
 
 -- ---- the other round trip, of bytes below 256
 
 module _ (l : List ℕ) (bytes : (k : ℕ) → k < length l → get_or l k 0 < 256) where
   -- what was read is below 256 to the number of its bytes
-  pub num-below : (at n : ℕ) → at + n ≤ length l → num l at n < 256 ^ n
+  pub num_below : (at n : ℕ) → at + n ≤ length l → num l at n < 256 ^ n
   unfolding num
-  num-below at zero h = lit< tt
-  num-below at (suc n) h =
+  num_below at zero h = lit< tt
+  num_below at (suc n) h =
       let b : get_or l at 0 < 256 = bytes at (omega (arith, add-suc at n)) in
-      let r : num l (suc at) n < 256 ^ n = num-below (suc at) n (omega (arith, add-suc at n)) in
+      let r : num l (suc at) n < 256 ^ n = num_below (suc at) n (omega (arith, add-suc at n)) in
       rw pow-suc (omega arith)
 
   -- what was read is written as the bytes that it was read from
-  pub le-num : (at n : ℕ) → at + n ≤ length l → le n (num l at n) ≡ take n (drop at l)
+  pub le_num : (at n : ℕ) → at + n ≤ length l → le n (num l at n) ≡ take n (drop at l)
   unfolding le num
-  le-num at zero h = refl
-  le-num at (suc n) h =
+  le_num at zero h = refl
+  le_num at (suc n) h =
       let b : get_or l at 0 < 256 = bytes at (omega (arith, add-suc at n)) in
       let r : ℕ = num l (suc at) n in
       let m : (get_or l at 0 + 256 * r) % 256 ≡ get_or l at 0 = omega arith in
       let q : (get_or l at 0 + 256 * r) / 256 ≡ r = omega arith in
       ap (λ (k : ℕ). (get_or l at 0 + 256 * r) % 256 ∷ le n k) q
       ∙ ap (λ (k : ℕ). k ∷ le n r) m
-      ∙ ap (λ (z : List ℕ). get_or l at 0 ∷ z) (le-num (suc at) n (omega (arith, add-suc at n)))
+      ∙ ap (λ (z : List ℕ). get_or l at 0 ∷ z) (le_num (suc at) n (omega (arith, add-suc at n)))
       ∙ ap (λ (z : List ℕ). take (suc n) z) (sym (drop-cons l at 0 (omega (arith, add-suc at n))))

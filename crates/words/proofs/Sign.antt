@@ -22,8 +22,8 @@ turned m h = ap (λ (z : ℤ). negsuc 0 -ℤ z) (to_z_pos w64 h) ∙ minus m
 
 -- ---- a number v that is read back from its bits as z
 
-pub not-below : (v z : ℤ) → z ≡ v → SFits w64 v → le_z (pos 0) z ≡ true → T (non_neg z) × Fits w64 (nat_abs z) × (nat_abs z ≡ of_z w64 v)
-not-below v z e f t = subst (λ (k : ℤ). T (non_neg k) × Fits w64 (nat_abs k) × (nat_abs k ≡ of_z w64 v)) (sym e) (go v f (subst (λ (k : ℤ). le_z (pos 0) k ≡ true) e t))
+pub not_below : (v z : ℤ) → z ≡ v → SFits w64 v → le_z (pos 0) z ≡ true → T (non_neg z) × Fits w64 (nat_abs z) × (nat_abs z ≡ of_z w64 v)
+not_below v z e f t = subst (λ (k : ℤ). T (non_neg k) × Fits w64 (nat_abs k) × (nat_abs k ≡ of_z w64 v)) (sym e) (go v f (subst (λ (k : ℤ). le_z (pos 0) k ≡ true) e t))
   where
     go : (v : ℤ) → SFits w64 v → le_z (pos 0) v ≡ true → T (non_neg v) × Fits w64 (nat_abs v) × (nat_abs v ≡ of_z w64 v)
     go (pos n) f t = (tt, record { fits = let h : n < 2 ^ 63 = f.sfits in omega arith }, refl)

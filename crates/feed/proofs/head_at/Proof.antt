@@ -1,6 +1,6 @@
 -- `feed::head_at` meets its contract. Assumes nothing.
 use borrow.Author.Rules.{rules}
-use Rattle.feed.proofs.Places.{few-left, cut-payload, whole-payload}
+use Rattle.feed.proofs.Places.{few_left, cut_payload, whole_payload}
 use Rattle.feed.proofs.head_at.Statement.{statement}
 use Rattle.feed.proofs.head_at.Tie as tie
 
@@ -9,10 +9,10 @@ head-at-spec =
     tie.close
     (tie.spec
     (λ c. search rules)
-    (λ c. search few-left)
+    (λ c. search few_left)
     (λ c κs. search rules)
     (λ c. search rules)
     (λ c κs. search rules)
     (λ c. search rules)
-    (λ c. search cut-payload)
-    (λ c. search whole-payload))
+    (λ c. search cut_payload)
+    (λ c. search whole_payload))

@@ -42,7 +42,7 @@ use denote.Triple.Table.{entered, cited}
 use denote.Triple.Walked.{says, Stays, stay_none, walk_of, Goes-none, Walks, ends_at, walked, walk_Meets}
 use denote.Exit.{yes}
 use denote.Triple.Clauses.{ensured, lasts}
-use Rattle.feed.specs.Feed.{readingAt}
+use Rattle.feed.specs.Feed.{reading_at}
 use Rattle.feed.specs.declared.Feed.{Feed}
 use Rattle.feed.specs.declared.Reading.{Reading}
 use Rattle.feed.specs.contracts.Feed as T
@@ -81,7 +81,7 @@ module _ {M : Type 1} {𝓤 : Ura M} (𝓛 : Logic 𝓤) (mem : Memory → SProp
   v = slice_val d.bytes.ref_ptr (length d.bytes.now)
 
   abbrev found : Reading
-  found = readingAt d.bytes.now d.place
+  found = reading_at d.bytes.now d.place
 
   abbrev Post : Val → SProp 𝓤
   Post = (walk_of 𝓛 next.ended stayed (next.clauses 𝓛 mem run)).post (((κ, tt), (q, tt), tt, (d, tt), (mach ∷ [], tt)), tt)
@@ -166,4 +166,4 @@ next-spec 𝓤 𝓛 𝓜 𝓡 =
     entered 𝓤 𝓛.H (triple_of 𝓛 next.signature (next.spec 𝓛 𝓜.mem 𝓡.run))
     (tables 𝓤 𝓛.H 𝓜 𝓡 code.env).C (tables 𝓤 𝓛.H 𝓜 𝓡 code.env).Λ #feed·next code.function (code.unfolded 𝓤 𝓛.H 𝓜 𝓡)
     (next-meets 𝓛 𝓜.mem 𝓡.run (tables_of 𝓤 𝓛.H 𝓜 (tables 𝓤 𝓛.H 𝓜 𝓡 code.env))
-    (cited 𝓤 𝓛.H (RecordAt 𝓛 𝓜.mem 𝓡.run) 𝓜 𝓡 code.env #feed·record-at step-def.routine code.calls-feed::record-at (step_thm.met 𝓤 𝓛 𝓜 𝓡)))
+    (cited 𝓤 𝓛.H (RecordAt 𝓛 𝓜.mem 𝓡.run) 𝓜 𝓡 code.env #feed·record-at step-def.routine code.calls-feed::record_at (step_thm.met 𝓤 𝓛 𝓜 𝓡)))

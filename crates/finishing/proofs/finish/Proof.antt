@@ -1,7 +1,7 @@
 -- `finishing::finish` meets its contract. Assumes nothing.
 use borrow.Author.Rules.{rules}
 use Rattle.build.proofs.Trials.{refused}
-use Rattle.finishing.proofs.Finishes.{finish-refused, finish-needs, close-needs, finished-needs, finish-done}
+use Rattle.finishing.proofs.Finishes.{finish_refused, finish_needs, close_needs, finished_needs, finish_done}
 use Rattle.finishing.proofs.finish.Statement.{statement}
 use Rattle.finishing.proofs.finish.Tie as tie
 
@@ -11,22 +11,22 @@ finish_spec =
     (tie.spec
     (λ c κs. search rules)
     (λ c. search rules)
-    (λ c. let e = c.before.refusal.ensures in (e.1, finish-refused _ _ _ _ _ e.0 (refused c.before.refusal.result c.match.keys2)))
+    (λ c. let e = c.before.refusal.ensures in (e.1, finish_refused _ _ _ _ _ e.0 (refused c.before.refusal.result c.match.keys2)))
     (λ c κs.
     let t = c.before.before in
     let e = t.before.before.refusal.ensures in
-    let n = finish-needs _ _ _ _ _ e.0 t.enum_told.given.1 in
+    let n = finish_needs _ _ _ _ _ e.0 t.enum_told.given.1 in
     (e.1, n.0, n.1, n.2, n.3, n.4))
     (λ c κs.
     let s = c.before.before.before.before in
     let t = s.before.before.before in
     let e = s.store-all.ensures in
-    close-needs _ _ _ _ _ t.before.before.refusal.ensures.0 t.enum_told.given.1 _ _ e.1 e.2)
+    close_needs _ _ _ _ _ t.before.before.refusal.ensures.0 t.enum_told.given.1 _ _ e.1 e.2)
     (λ c κs.
     let s = c.before.before.before.before.before.before.before.before in
     let t = s.before.before.before in
     let e = s.store-all.ensures in
-    (e.0, finished-needs _ _ _ _ _ t.before.before.refusal.ensures.0 t.enum_told.given.1 _ _ e.1 e.2))
+    (e.0, finished_needs _ _ _ _ _ t.before.before.refusal.ensures.0 t.enum_told.given.1 _ _ e.1 e.2))
     (λ c. search rules)
     (λ c.
     let k = c.before.before.before.before in
@@ -34,4 +34,4 @@ finish_spec =
     let t = s.before.before.before in
     let e = s.store-all.ensures in
     let f = c.finished.ensures in
-    (f.0, finish-done _ _ _ _ _ t.before.before.refusal.ensures.0 t.enum_told.given.1 _ _ e.1 e.2 _ _ k.close-all.ensures (f.1 _))))
+    (f.0, finish_done _ _ _ _ _ t.before.before.refusal.ensures.0 t.enum_told.given.1 _ _ e.1 e.2 _ _ k.close-all.ensures (f.1 _))))

@@ -2,7 +2,7 @@
 use mathlib.Core.Path.{sym, ◌∙◌}
 use borrow.Author.Rules.{rules}
 use Rattle.build.proofs.Trials.{refused}
-use Rattle.finishing.proofs.Finishes.{entries-inside, trial-needs, finish-unadmitted, finish-finished, finish-damaged, finish-outside, finish-early, finish-tried}
+use Rattle.finishing.proofs.Finishes.{entries_inside, trial_needs, finish_unadmitted, finish_finished, finish_damaged, finish_outside, finish_early, finish_tried}
 use Rattle.finishing.proofs.refusal.Statement.{statement}
 use Rattle.finishing.proofs.refusal.Tie as tie
 
@@ -12,27 +12,27 @@ refusal-spec =
     (tie.spec
     (λ c κs. search rules)
     (λ c. search rules)
-    (λ c. let e = c.before.admit.ensures in (finish-unadmitted _ _ _ _ _ e.0 (refused c.before.admit.result c.match.keys2), e.1))
+    (λ c. let e = c.before.admit.ensures in (finish_unadmitted _ _ _ _ _ e.0 (refused c.before.admit.result c.match.keys2), e.1))
     (λ c κs. search rules)
     (λ c.
     let d = c.before in
     let e = d.before.before.before.admit.ensures in
-    (finish-finished _ _ _ _ _ e.0 d.before.enum_told.given.1 (sym d.finished.ensures ∙ c.if1.true), e.1))
+    (finish_finished _ _ _ _ _ e.0 d.before.enum_told.given.1 (sym d.finished.ensures ∙ c.if1.true), e.1))
     (λ c κs.
     let d = c.before in
     let e = d.before.before.before.admit.ensures in
-    entries-inside _ _ _ _ e.0 d.before.enum_told.given.1 (sym d.finished.ensures ∙ c.if1.false))
+    entries_inside _ _ _ _ e.0 d.before.enum_told.given.1 (sym d.finished.ensures ∙ c.if1.false))
     (λ c.
     let f = c.before.before in
     let d = f.before in
     let e = d.before.before.before.admit.ensures in
-    (finish-damaged _ _ _ _ _ e.0 d.before.enum_told.given.1 (sym d.finished.ensures ∙ f.if1.false) _ c.before.all_sound.ensures c.if2.true, e.1))
+    (finish_damaged _ _ _ _ _ e.0 d.before.enum_told.given.1 (sym d.finished.ensures ∙ f.if1.false) _ c.before.all_sound.ensures c.if2.true, e.1))
     (λ c.
     let s = c.before.before in
     let f = s.before in
     let d = f.before in
     let e = d.before.before.before.admit.ensures in
-    (finish-outside _ _ _ _ _ e.0 d.before.enum_told.given.1 (sym d.finished.ensures ∙ f.if1.false) _ s.all_sound.ensures c.before.if2.false c.if3.true, e.1))
+    (finish_outside _ _ _ _ _ e.0 d.before.enum_told.given.1 (sym d.finished.ensures ∙ f.if1.false) _ s.all_sound.ensures c.before.if2.false c.if3.true, e.1))
     (λ c. search rules)
     (λ c.
     let t = c.before.before in
@@ -40,13 +40,13 @@ refusal-spec =
     let f = s.before in
     let d = f.before in
     let e = d.before.before.before.admit.ensures in
-    (finish-early _ _ _ _ _ e.0 d.before.enum_told.given.1 (sym d.finished.ensures ∙ f.if1.false) _ s.all_sound.ensures t.before.if2.false t.if3.false c.if4.true, e.1))
+    (finish_early _ _ _ _ _ e.0 d.before.enum_told.given.1 (sym d.finished.ensures ∙ f.if1.false) _ s.all_sound.ensures t.before.if2.false t.if3.false c.if4.true, e.1))
     (λ c κs.
     let t = c.before.before.before in
     let f = t.before.before.before in
     let d = f.before in
     let e = d.before.before.before.admit.ensures in
-    trial-needs _ _ _ _ e.0 d.before.enum_told.given.1 (sym d.finished.ensures ∙ f.if1.false) _ t.if3.false)
+    trial_needs _ _ _ _ e.0 d.before.enum_told.given.1 (sym d.finished.ensures ∙ f.if1.false) _ t.if3.false)
     (λ c.
     let i = c.before.before in
     let t = i.before.before in
@@ -54,4 +54,4 @@ refusal-spec =
     let f = s.before in
     let d = f.before in
     let e = d.before.before.before.admit.ensures in
-    (finish-tried _ _ _ _ _ e.0 d.before.enum_told.given.1 (sym d.finished.ensures ∙ f.if1.false) _ s.all_sound.ensures t.before.if2.false t.if3.false i.if4.false _ c.trial.ensures, e.1)))
+    (finish_tried _ _ _ _ _ e.0 d.before.enum_told.given.1 (sym d.finished.ensures ∙ f.if1.false) _ s.all_sound.ensures t.before.if2.false t.if3.false i.if4.false _ c.trial.ensures, e.1)))

@@ -6,7 +6,7 @@ use mathlib.Core.Logic.{⊎_elim}
 use native.Mathlib.Omega.{arith}
 use lib.ListN.{length}
 use borrow.Author.Rules.{rules}
-use Rattle.feed.proofs.Written.{Ahead, after_read, after-refused}
+use Rattle.feed.proofs.Written.{Ahead, after_read, after_refused}
 use Rattle.history.proofs.run.Statement.{statement}
 use Rattle.history.proofs.run.Tie as tie
 
@@ -21,7 +21,7 @@ decreases-loop bytes h₀ nodes₀ table₀ answer₀ s₀ place₀ i₀ h nodes
 ahead : (c : tie.At-match-branch invariant-loop decreases-loop) → Ahead c.before.before.before.before.before.before.before.before.args.bytes.now c.before.before.loop.place c.match.place
 ahead c =
     ⊎_elim
-    (λ w. rw w.9 (after-refused _ _ _ c.before.read_at.ensures _ _ w.1.given.1))
+    (λ w. rw w.9 (after_refused _ _ _ c.before.read_at.ensures _ _ w.1.given.1))
     (λ w. rw w.19 (after_read _ _ _ c.before.read_at.ensures _ _ w.1.given.1))
     c.match.branch
 

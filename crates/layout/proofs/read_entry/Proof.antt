@@ -7,8 +7,8 @@ use borrow.Author.Rules.{rules}
 use Rattle.layout.proofs.read_entry.Statement.{statement}
 use Rattle.layout.proofs.read_entry.Tie as tie
 
-value-fits : (c : tie.After-signed) → SFits w64 c.signed.result
-value-fits c = search rules
+value_fits : (c : tie.After-signed) → SFits w64 c.signed.result
+value_fits c = search rules
 
 returns : tie.Need-returns
 returns c =
@@ -16,7 +16,7 @@ returns c =
     let c₃ = c₄.before in
     let c₂ = c₃.before in
     entry_read _ _ _ _ _ _ _ _ _ c₂.before.get.ensures.0 c₂.get2.ensures.0 c₃.get3.ensures.0 c₄.get4.ensures.0 c.before.get5.ensures.0
-    c.signed.ensures (to_z-of_z (value-fits c))
+    c.signed.ensures (to_z-of_z (value_fits c))
 
 pub read-entry-spec : {M : Type 1} → statement M
 read-entry-spec =

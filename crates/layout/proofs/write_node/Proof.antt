@@ -1,21 +1,21 @@
 -- `layout::write_node` meets its contract. Assumes nothing.
-use Rattle.layout.specs.Layout.{nodeSize, childAt}
-use Rattle.layout.proofs.Encoded.{node-empty, node-first}
+use Rattle.layout.specs.Layout.{node_size, child_at}
+use Rattle.layout.proofs.Encoded.{node_empty, node_first}
 use borrow.Author.Rules.{rules}
 use Rattle.layout.proofs.write_node.Statement.{statement}
 use Rattle.layout.proofs.write_node.Tie as tie
 
 write-empty-requires : tie.Need-write-empty-requires
-unfolding nodeSize
+unfolding node_size
 write-empty-requires c κs = search rules
 
 returns : tie.Need-returns
 returns c =
     let c₂ = c.before.before.before.before in
-    node-empty _ _ _ _ _ _ c₂.before.before.node-size.ensures c₂.write-empty.ensures c.enum_told.given.1
+    node_empty _ _ _ _ _ _ c₂.before.before.node-size.ensures c₂.write-empty.ensures c.enum_told.given.1
 
 put-child-requires : tie.Need-put-child-requires
-unfolding nodeSize childAt
+unfolding node_size child_at
 put-child-requires c κs = search rules
 
 returns-2 : tie.Need-returns-2
@@ -24,7 +24,7 @@ returns-2 c =
     let m = c₄.before.before.before.before in
     let c₂ = m.before.before.before.before in
     let c₀ = c₂.before.before.before.before in
-    node-first _ _ _ _ _ _ c₂.before.before.node-size.ensures c₂.write-empty.ensures _ _ _ c₀.requires.0 c₀.requires.1 m.first.given.1 c₄.before.child-at.ensures c₄.put-child.ensures
+    node_first _ _ _ _ _ _ c₂.before.before.node-size.ensures c₂.write-empty.ensures _ _ _ c₀.requires.0 c₀.requires.1 m.first.given.1 c₄.before.child-at.ensures c₄.put-child.ensures
 
 pub write-node-spec : {M : Type 1} → statement M
 write-node-spec =

@@ -1,6 +1,6 @@
 -- `measure::history_measure` meets its contract: the opening, and the script on what it leaves. Assumes nothing.
 use borrow.Author.Rules.{rules}
-use Rattle.measure.proofs.Plays.{measure-done}
+use Rattle.measure.proofs.Plays.{measure_done}
 use Rattle.measure.proofs.history_measure.Statement.{statement}
 use Rattle.measure.proofs.history_measure.Tie as tie
 
@@ -8,7 +8,7 @@ returns : tie.Need-returns
 returns c =
     let p = c.before.before.before.before.before.before.before.before.before in
     let o = p.before.before.before.before.before.before.before.before.before.before in
-    measure-done _ _ _ _ _ _ _ _ _ _ _ _ _ _ o.«open».ensures _ _ _ _ _ p.play.ensures _ c.number.ensures
+    measure_done _ _ _ _ _ _ _ _ _ _ _ _ _ _ o.«open».ensures _ _ _ _ _ p.play.ensures _ c.number.ensures
 
 pub history-measure-spec : {M : Type 1} → statement M
 history-measure-spec =

@@ -1,6 +1,6 @@
 -- `measure::say` meets its contract. Assumes nothing.
 use borrow.Author.Rules.{rules}
-use Rattle.measure.proofs.Calls.{slot-put}
+use Rattle.measure.proofs.Calls.{slot_put}
 use Rattle.measure.proofs.say.Statement.{statement}
 use Rattle.measure.proofs.say.Tie as tie
 
@@ -8,7 +8,7 @@ returns : tie.Need-returns
 returns c =
     let c₂ = c.before.before in
     let c₁ = c₂.before.before.before.before in
-    slot-put _ _ _ _ _ _ _ _ (search rules) c₁.before.number.ensures c₁.put.ensures c₂.put-entry.ensures
+    slot_put _ _ _ _ _ _ _ _ (search rules) c₁.before.number.ensures c₁.put.ensures c₂.put-entry.ensures
 
 pub say-spec : {M : Type 1} → statement M
 say-spec =

@@ -1,6 +1,6 @@
 -- `measure::step` meets its contract: each kind cites the law of its step. Assumes nothing.
 use borrow.Author.Rules.{rules}
-use Rattle.measure.proofs.Calls.{one-asked, all_asked, called-back, called_on}
+use Rattle.measure.proofs.Calls.{one_asked, all_asked, called_back, called_on}
 use Rattle.measure.proofs.step.Statement.{statement}
 use Rattle.measure.proofs.step.Tie as tie
 
@@ -9,7 +9,7 @@ returns c =
     let s = c.before.before in
     let q = s.before.before.before in
     let d = q.before.before.before.before in
-    (d.before.before.before.before.before.before.requires.0, one-asked _ _ _ _ _ _ _ _ d.if1.true _ q.single.ensures s.say.ensures)
+    (d.before.before.before.before.before.before.requires.0, one_asked _ _ _ _ _ _ _ _ d.if1.true _ q.single.ensures s.say.ensures)
 
 returns-2 : tie.Need-returns-2
 returns-2 c =
@@ -24,7 +24,7 @@ returns-3 c =
     let q = s.before.before.before.before in
     let f = q.before.before.before.before.before in
     let d = f.before.before in
-    (d.before.before.before.before.before.before.before.before.requires.0, called-back _ _ _ _ _ _ _ _ d.before.before.if1.false d.if2.false _ _ _ _ _ s.say3.ensures f.if3.true q.finish.ensures)
+    (d.before.before.before.before.before.before.before.before.requires.0, called_back _ _ _ _ _ _ _ _ d.before.before.if1.false d.if2.false _ _ _ _ _ s.say3.ensures f.if3.true q.finish.ensures)
 
 returns-4 : tie.Need-returns-4
 returns-4 c =

@@ -1,4 +1,4 @@
--- `settle::ask` meets its contract. Its measure is the number of open levels above; each `return` cites the law of its way through `askUp`.
+-- `settle::ask` meets its contract. Its measure is the number of open levels above; each `return` cites the law of its way through `ask_up`.
 -- Assumes nothing.
 use Prim.Native.Nat.{ℕ, ◌<◌, ◌-◌}
 use mathlib.Core.Path.{ap}
@@ -6,9 +6,9 @@ use lib.ListN.{get_or}
 use borrow.Author.Rules.{rules}
 use borrow.Fn.Kinds.{In}
 use borrow.Fn.PlainCycle.{Measures, is, falls, and}
-use Rattle.record.specs.Record.{recordOf}
+use Rattle.record.specs.Record.{record_of}
 use Rattle.settle.specs.declared.Plan.{Plan}
-use Rattle.settle.proofs.Ways.{here, chained, new-root, level-upward, fewer}
+use Rattle.settle.proofs.Ways.{here, chained, new_root_lem, level_upward, fewer}
 use Rattle.settle.proofs.ask.Reads as ask
 use Rattle.settle.proofs.ask.Kinds as ask-kinds
 use Rattle.settle.proofs.+ask.Lts-ask as ask-lts
@@ -43,8 +43,8 @@ pub +ask-spec : {M : Type 1} → statement M
     (λ c. search rules)
     (λ c. search rules)
     (λ c. search rules)
-    (λ c x. ap level (new-root _ _ _ _ _ x _ c.before.before.before.before.rule.ensures (search rules) c.if1.true))
+    (λ c x. ap level (new_root_lem _ _ _ _ _ x _ c.before.before.before.before.rule.ensures (search rules) c.if1.true))
     (λ c. search rules)
     (λ c. search rules)
     (λ c κs. let a = c.before.before.before.before.before.before in fewer _ _ _ _ a.requires.0 a.requires.1 c.before.if1.false)
-    (λ c x. let a = c.before.before.before.before.before.before.before in level-upward (recordOf (record { k = a.args.k; c = a.args.c; n = a.args.n }) a.args.h.now) _ _ _ _ x _ c.before.before.before.before.before.before.rule.ensures _ (search rules) a.requires.1.1 c.before.before.if1.false c.ask.ensures)
+    (λ c x. let a = c.before.before.before.before.before.before.before in level_upward (record_of (record { k = a.args.k; c = a.args.c; n = a.args.n }) a.args.h.now) _ _ _ _ x _ c.before.before.before.before.before.before.rule.ensures _ (search rules) a.requires.1.1 c.before.before.if1.false c.ask.ensures)

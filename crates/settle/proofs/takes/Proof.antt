@@ -1,6 +1,6 @@
 -- `settle::takes` meets its contract. Assumes nothing.
 use borrow.Author.Rules.{rules}
-use Rattle.record.proofs.Lies.{intervals-lie, last-end-lies}
+use Rattle.record.proofs.Lies.{intervals_lie, last_end_lies}
 use Rattle.settle.specs.Settle.{taken}
 use Rattle.settle.proofs.takes.Statement.{statement}
 use Rattle.settle.proofs.takes.Tie as tie
@@ -14,9 +14,9 @@ takes-spec =
     (λ c. search rules)
     (λ c. search rules)
     (λ c. search rules)
-    (λ c. let a = c.before.before.before in simp (last-end-lies a.args.h.now a.args.level a.requires, c.if1.true))
+    (λ c. let a = c.before.before.before in simp (last_end_lies a.args.h.now a.args.level a.requires, c.if1.true))
     (λ c. search rules)
     (λ c. search rules)
     (λ c. search rules)
     (λ c. search rules)
-    (λ c. let a = c.before.before.before.before.before in simp (last-end-lies a.args.h.now a.args.level a.requires, intervals-lie a.args.h.now a.args.level a.requires, c.before.before.if1.false)))
+    (λ c. let a = c.before.before.before.before.before in simp (last_end_lies a.args.h.now a.args.level a.requires, intervals_lie a.args.h.now a.args.level a.requires, c.before.before.if1.false)))

@@ -8,12 +8,12 @@ use lib.Signed.{mag, non_neg}
 use mir.Syntax.{w64}
 use mir.Val.{Fits, SFits, to_z, of_z}
 use mir.Facts.{to_z-of_z, to_z_pos}
-use Rattle.words.proofs.Sign.{not-below, is_below}
+use Rattle.words.proofs.Sign.{not_below, is_below}
 use Rattle.words.proofs.bits.Statement.{statement}
 use Rattle.words.proofs.bits.Tie as tie
 
 up : (c : tie.Then1) → T (non_neg (to_z w64 (of_z w64 c.before.args.v))) × Fits w64 (nat_abs (to_z w64 (of_z w64 c.before.args.v))) × (nat_abs (to_z w64 (of_z w64 c.before.args.v)) ≡ of_z w64 c.before.args.v)
-up c = not-below c.before.args.v _ (to_z-of_z c.before.ranges.v) c.before.ranges.v c.if1.true
+up c = not_below c.before.args.v _ (to_z-of_z c.before.ranges.v) c.before.ranges.v c.if1.true
 
 -- what -1 - v is, and its bits read back
 down : (c : tie.Else1) → negsuc 0 -ℤ to_z w64 (of_z w64 c.before.args.v) ≡ pos (mag c.before.args.v)

@@ -8,7 +8,7 @@ use borrow.Author.Rules.{rules}
 use lib.ListN.{length, length-set}
 use lib.Seq.{sets}
 use Rattle.words.specs.Words.{le}
-use Rattle.words.proofs.Numbers.{put_step, put-done}
+use Rattle.words.proofs.Numbers.{put_step, put_done}
 use Rattle.words.proofs.put.Statement.{statement}
 use Rattle.words.proofs.put.Tie as tie
 
@@ -27,7 +27,7 @@ loop-again c =
     (omega arith, rw length-set inv.1, inv.2 ∙ put_step _ _ _ _ _ c.loop-test.true)
 
 returns : tie.Need-returns invariant-loop decreases-loop
-returns c = sym (c.before.loop.invariant.2 ∙ put-done _ _ _ _ _ c.loop-test.false)
+returns c = sym (c.before.loop.invariant.2 ∙ put_done _ _ _ _ _ c.loop-test.false)
 
 pub put_spec : {M : Type 1} → statement M
 put_spec =

@@ -1,10 +1,10 @@
 -- `build::moves::store` meets its contract. Assumes nothing.
 use native.Mathlib.Omega.{arith}
 use borrow.Author.Rules.{rules}
-use Rattle.record.specs.Record.{recordOf}
-use Rattle.record.proofs.Lies.{intervals-lie}
-use Rattle.build.proofs.Stands.{has-place, stored-stands}
-use Rattle.build.proofs.Heads.{entry-small, entry-inside, store-done}
+use Rattle.record.specs.Record.{record_of}
+use Rattle.record.proofs.Lies.{intervals_lie}
+use Rattle.build.proofs.Stands.{has_place, stored_stands}
+use Rattle.build.proofs.Heads.{entry_small, entry_inside, store_done}
 use Rattle.build.proofs.moves.store.Statement.{statement}
 use Rattle.build.proofs.moves.store.Tie as tie
 
@@ -16,16 +16,16 @@ store_spec =
     (λ c. search rules)
     (λ c. search rules)
     (λ c. let a = c.before.before in let p = a.requires in let f = p.1 in
-    omega (arith, p.5, f.shaped.small, intervals-lie a.args.h.now a.args.level (omega (arith, p.4, f.top))))
+    omega (arith, p.5, f.shaped.small, intervals_lie a.args.h.now a.args.level (omega (arith, p.4, f.top))))
     (λ c κs. search rules)
-    (λ c κs. let a = c.before.before.before.before in let p = a.requires in has-place (recordOf a.args.shape a.args.h.now) a.args.nodes.now p.1 p.2 a.args.level p.3 p.4)
+    (λ c κs. let a = c.before.before.before.before in let p = a.requires in has_place (record_of a.args.shape a.args.h.now) a.args.nodes.now p.1 p.2 a.args.level p.3 p.4)
     (λ c κs. search rules)
     (λ c κs. let m = c.before.before in let a = m.before.before.before.before.before.before.before in let p = a.requires in let s = a.args.shape in
-    stored-stands (recordOf s a.args.h.now) a.args.nodes.now p.1 p.2 a.args.level p.3 p.4 (recordOf s m.stored.new.0) (m.stored.ensures.1 s) p.5)
+    stored_stands (record_of s a.args.h.now) a.args.nodes.now p.1 p.2 a.args.level p.3 p.4 (record_of s m.stored.new.0) (m.stored.ensures.1 s) p.5)
     (λ c. let l = c.before.before.before.before.before.before.before.before in let k = l.before.before in let a = k.before.before.before in
-    omega (arith, entry-small a.args.shape a.args.h.now a.args.nodes.now _ _ l.place_of.ensures.1 a.args.level a.requires k.entry_at.ensures))
+    omega (arith, entry_small a.args.shape a.args.h.now a.args.nodes.now _ _ l.place_of.ensures.1 a.args.level a.requires k.entry_at.ensures))
     (λ c κs. let n = c.before.before.before in let m = n.before.before.before in let l = m.before.before in let k = l.before.before in let a = k.before.before.before in
-    entry-inside a.args.shape a.args.h.now a.args.nodes.now _ _ l.place_of.ensures.1 a.args.level a.requires k.entry_at.ensures m.stored.new.0 _ n.put-head.ensures)
+    entry_inside a.args.shape a.args.h.now a.args.nodes.now _ _ l.place_of.ensures.1 a.args.level a.requires k.entry_at.ensures m.stored.new.0 _ n.put-head.ensures)
     (λ c. search rules)
     (λ c. let o = c.before.before in let n = o.before.before.before.before in let m = n.before.before.before in let l = m.before.before in let k = l.before.before in let a = k.before.before.before in
-    store-done a.args.shape a.args.h.now a.args.nodes.now _ _ l.place_of.ensures.1 a.args.level a.requires k.entry_at.ensures m.stored.new.0 _ n.put-head.ensures _ _ l.place_of.ensures.0 m.stored.ensures o.put-entry.ensures))
+    store_done a.args.shape a.args.h.now a.args.nodes.now _ _ l.place_of.ensures.1 a.args.level a.requires k.entry_at.ensures m.stored.new.0 _ n.put-head.ensures _ _ l.place_of.ensures.0 m.stored.ensures o.put-entry.ensures))

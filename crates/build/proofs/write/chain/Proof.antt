@@ -1,7 +1,7 @@
 -- `build::write::chain` meets its contract. Assumes nothing.
 use native.Mathlib.Omega.{arith}
 use borrow.Author.Rules.{rules}
-use Rattle.build.proofs.Turns.{hangs, chain-can, chain-done}
+use Rattle.build.proofs.Turns.{hangs, chain_can, chain_done}
 use Rattle.build.proofs.write.chain.Statement.{statement}
 use Rattle.build.proofs.write.chain.Tie as tie
 
@@ -17,11 +17,11 @@ chain-spec =
     (λ c κs.
     let k = c.before.before.before.before in
     let s = k.before.before.before.before.before in
-    chain-can s.args.shape s.args.h.now s.args.nodes.now s.args.level _ _ _ k.descend.ensures s.requires.1 s.requires.2)
+    chain_can s.args.shape s.args.h.now s.args.nodes.now s.args.level _ _ _ k.descend.ensures s.requires.1 s.requires.2)
     (λ c. search rules)
     (λ c.
     let k = c.before.before.before.before.before.before.before in
     let s = k.before.before.before.before.before in
     let a = s.args in
-    chain-done a.shape a.h.now a.nodes.now a.level _ _ _ k.descend.ensures a.e _ _
+    chain_done a.shape a.h.now a.nodes.now a.level _ _ _ k.descend.ensures a.e _ _
     (omega (arith, (hangs a.shape a.h.now a.level s.requires.1).2)) c.before.before.store.ensures))

@@ -1,7 +1,7 @@
 -- `build::write::climb` meets its contract: what is left of the climb is the whole of it. Assumes nothing.
 use Prim.Native.Nat.{◌-◌}
 use borrow.Author.Rules.{rules}
-use Rattle.build.proofs.Turns.{ClimbLeft, climb-begins, climb-needs, climb-turn, climb-done}
+use Rattle.build.proofs.Turns.{ClimbLeft, climb_begins, climb_needs, climb_turn, climb_done}
 use Rattle.build.proofs.write.climb.Statement.{statement}
 use Rattle.build.proofs.write.climb.Tie as tie
 
@@ -15,10 +15,10 @@ pub climb-spec : {M : Type 1} → statement M
 climb-spec =
     tie.close
     (tie.spec invariant-loop decreases-loop
-    (λ c. let p = c.before.requires in climb-begins _ _ _ _ p.0 p.1 p.2)
-    (λ c κs. climb-needs _ _ _ _ _ _ _ c.before.before.before.loop.invariant c.before.before.loop-test.true)
+    (λ c. let p = c.before.requires in climb_begins _ _ _ _ p.0 p.1 p.2)
+    (λ c κs. climb_needs _ _ _ _ _ _ _ c.before.before.before.loop.invariant c.before.before.loop-test.true)
     (λ c. search rules)
     (λ c. search rules)
-    (λ c. let k = c.before.before.before.before.before in climb-turn _ _ _ _ _ _ _ k.before.loop.invariant k.loop-test.true _ _ c.before.before.rise.ensures)
+    (λ c. let k = c.before.before.before.before.before in climb_turn _ _ _ _ _ _ _ k.before.loop.invariant k.loop-test.true _ _ c.before.before.rise.ensures)
     (λ c. c.before.loop.invariant.long)
-    (λ c. climb-done _ _ _ _ _ _ _ c.before.loop.invariant c.loop-test.false))
+    (λ c. climb_done _ _ _ _ _ _ _ c.before.loop.invariant c.loop-test.false))

@@ -1,7 +1,7 @@
 -- `build::write::rise` meets its contract. Assumes nothing.
 use borrow.Author.Rules.{rules}
-use Rattle.record.specs.Record.{recordOf}
-use Rattle.build.proofs.Turns.{rise-close, raise-can, rise-raise}
+use Rattle.record.specs.Record.{record_of}
+use Rattle.build.proofs.Turns.{rise_close, raise_can, rise_raise}
 use Rattle.build.proofs.write.rise.Statement.{statement}
 use Rattle.build.proofs.write.rise.Tie as tie
 
@@ -15,15 +15,15 @@ rise-spec =
     (λ c κs.
     let s = c.before.before.before.before.before.before in
     let p = s.requires in
-    let r = raise-can (recordOf s.args.shape s.args.h.now) p.1 c.before.before.if1.false in
+    let r = raise_can (record_of s.args.shape s.args.h.now) p.1 c.before.before.if1.false in
     (p.0, p.1.firm, p.2, r.0, r.1, r.2))
     (λ c. search rules)
     (λ c.
     let k = c.before.before.before.before.before in
     let s = k.before.before.before.before.args in
-    rise-close s.shape s.h.now s.nodes.now _ _ k.if1.true c.before.before.close.ensures)
+    rise_close s.shape s.h.now s.nodes.now _ _ k.if1.true c.before.before.close.ensures)
     (λ c. search rules)
     (λ c.
     let k = c.before.before.before.before.before in
     let s = k.before.before.before.before.args in
-    rise-raise s.shape s.h.now s.nodes.now _ _ k.if1.false c.before.before.raise.ensures))
+    rise_raise s.shape s.h.now s.nodes.now _ _ k.if1.false c.before.before.raise.ensures))

@@ -2,7 +2,7 @@
 use native.Mathlib.Omega.{arith}
 use borrow.Author.Rules.{rules}
 use Rattle.build.proofs.Trials.{refused}
-use Rattle.calls.proofs.Additions.{add-room, add_small, add-refused, added}
+use Rattle.calls.proofs.Additions.{add_room, add_small, add_refused, added}
 use Rattle.calls.proofs.adding.add.Statement.{statement}
 use Rattle.calls.proofs.adding.add.Tie as tie
 
@@ -14,7 +14,7 @@ add_spec =
     (λ c. search rules)
     (λ c.
     let a = c.before.refusal.ensures in
-    (a.1, add-refused _ _ _ _ a.0 (refused c.before.refusal.result c.match.keys2)))
+    (a.1, add_refused _ _ _ _ a.0 (refused c.before.refusal.result c.match.keys2)))
     (λ c. search rules)
     (λ c.
     let k = c.before in
@@ -23,7 +23,7 @@ add_spec =
     (λ c κs. search rules)
     (λ c κs.
     let k = c.before.before.before.before in
-    add-room _ _ _ _ k.before.before.refusal.ensures.0 k.enum_told.given.1)
+    add_room _ _ _ _ k.before.before.refusal.ensures.0 k.enum_told.given.1)
     (λ c κs.
     let k = c.before.before.before.before.before.before.before.before in
     let a = k.before.before.refusal.ensures in

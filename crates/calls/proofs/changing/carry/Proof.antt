@@ -1,7 +1,7 @@
 -- `calls::changing::carry` meets its contract. Assumes nothing.
 use borrow.Author.Rules.{rules}
-use Rattle.record.specs.Record.{recordOf}
-use Rattle.calls.proofs.Changes.{carry-top, carry_same, carry-replaced, carry-before, carry-ended}
+use Rattle.record.specs.Record.{record_of}
+use Rattle.calls.proofs.Changes.{carry_top, carry_same, carry_replaced, carry_before, carry_ended}
 use Rattle.calls.proofs.changing.carry.Statement.{statement}
 use Rattle.calls.proofs.changing.carry.Tie as tie
 
@@ -20,27 +20,27 @@ carry-spec =
     (λ c κs.
     let k = c.before.before.before.before in
     let p = k.before.before.before.before.before.requires in
-    (p.0, p.1, carry-before _ _ _ _ _ _ _ _ k.before.before.decide.ensures _ k.d2.given.1 p.1))
+    (p.0, p.1, carry_before _ _ _ _ _ _ _ _ k.before.before.decide.ensures _ k.d2.given.1 p.1))
     (λ c.
     let s = c.before.before.before.before.before.args in
-    let h = recordOf s.shape s.h.now in
-    (c.before.before.before.before.before.requires.0, carry-top h _ _ _ _ _ _ _ c.before.before.decide.ensures c.enum_told.given.1))
+    let h = record_of s.shape s.h.now in
+    (c.before.before.before.before.before.requires.0, carry_top h _ _ _ _ _ _ _ c.before.before.decide.ensures c.enum_told.given.1))
     (λ c.
     let s = c.before.before.before.before.before.before.before.args in
-    let h = recordOf s.shape s.h.now in
+    let h = record_of s.shape s.h.now in
     let a = c.at-time.ensures in
     (a.0, carry_same h _ _ _ _ _ _ _ c.before.before.before.before.decide.ensures _ c.before.before.enum-told2.given.1 (a.1 s.shape)))
     (λ c. search rules)
     (λ c.
     let k = c.before.before.before.before.before.before.before in
     let s = k.before.before.before.before.before.args in
-    let h = recordOf s.shape s.h.now in
+    let h = record_of s.shape s.h.now in
     let a = c.at-time2.ensures in
-    (a.0, carry-replaced h _ _ _ _ _ _ _ k.before.before.decide.ensures _ _ _ k.d.given.1 c.before.before.before.before.put-ongoing.ensures (a.1 s.shape)))
+    (a.0, carry_replaced h _ _ _ _ _ _ _ k.before.before.decide.ensures _ _ _ k.d.given.1 c.before.before.before.before.put-ongoing.ensures (a.1 s.shape)))
     (λ c. search rules)
     (λ c. search rules)
     (λ c.
     let k = c.before.before.before.before.before.before.before.before.before in
     let s = k.before.before.before.before.before.args in
-    let h = recordOf s.shape s.h.now in
-    carry-ended h _ _ _ _ _ _ _ k.before.before.decide.ensures _ k.d2.given.1 _ s.shape _ _ _ c.before.before.before.before.store.ensures))
+    let h = record_of s.shape s.h.now in
+    carry_ended h _ _ _ _ _ _ _ k.before.before.decide.ensures _ k.d2.given.1 _ s.shape _ _ _ c.before.before.before.before.store.ensures))

@@ -3,13 +3,13 @@ use mir.Syntax.{w64}
 use mir.Val.{SFits}
 use mir.Facts.{to_z-of_z}
 use borrow.Author.Rules.{rules}
-use Rattle.record.specs.Record.{recordOf}
+use Rattle.record.specs.Record.{record_of}
 use Rattle.calls.proofs.Changes.{set_back}
 use Rattle.calls.proofs.changing.set.Statement.{statement}
 use Rattle.calls.proofs.changing.set.Tie as tie
 
-value-fits : (c : tie.Start) → SFits w64 c.args.value
-value-fits c = search rules
+value_fits : (c : tie.Start) → SFits w64 c.args.value
+value_fits c = search rules
 
 pub set_spec : {M : Type 1} → statement M
 set_spec =
@@ -21,5 +21,5 @@ set_spec =
     (λ c.
     let k = c.before.before.before.before.before.before.before.before.before.before in
     let s = k.args in
-    let h = recordOf s.shape s.h.now in
-    set_back h _ _ _ _ _ _ (to_z-of_z (value-fits k)) _ s.shape _ _ _ c.before.before.before.before.change.ensures))
+    let h = record_of s.shape s.h.now in
+    set_back h _ _ _ _ _ _ (to_z-of_z (value_fits k)) _ s.shape _ _ _ c.before.before.before.before.change.ensures))

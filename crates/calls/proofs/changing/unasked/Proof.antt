@@ -1,9 +1,9 @@
 -- `calls::changing::unasked` meets its contract. Assumes nothing.
 use mathlib.Core.Path.{sym, ◌∙◌}
 use borrow.Author.Rules.{rules}
-use Rattle.record.specs.Record.{recordOf}
+use Rattle.record.specs.Record.{record_of}
 use Rattle.build.proofs.Trials.{refused}
-use Rattle.calls.proofs.Changes.{unasked-head, unasked-finished, unasked-quark, unasked-fine}
+use Rattle.calls.proofs.Changes.{unasked_head, unasked_finished, unasked_quark, unasked_fine}
 use Rattle.calls.proofs.changing.unasked.Statement.{statement}
 use Rattle.calls.proofs.changing.unasked.Tie as tie
 
@@ -15,26 +15,26 @@ unasked-spec =
     (λ c. search rules)
     (λ c.
     let s = c.before.before.args in
-    let h = recordOf s.shape s.h.now in
+    let h = record_of s.shape s.h.now in
     let a = c.before.admit.ensures in
-    (unasked-head h _ _ _ _ a.0 (refused c.before.admit.result c.match.keys2), a.1))
+    (unasked_head h _ _ _ _ a.0 (refused c.before.admit.result c.match.keys2), a.1))
     (λ c κs. search rules)
     (λ c.
     let s = c.before.before.before.before.before.args in
-    let h = recordOf s.shape s.h.now in
+    let h = record_of s.shape s.h.now in
     let a = c.before.before.before.before.admit.ensures in
-    (unasked-finished h _ _ _ _ a.0 c.before.before.enum_told.given.1 (sym c.before.finished.ensures ∙ c.if1.true), a.1))
+    (unasked_finished h _ _ _ _ a.0 c.before.before.enum_told.given.1 (sym c.before.finished.ensures ∙ c.if1.true), a.1))
     (λ c. search rules)
     (λ c. search rules)
     (λ c.
     let k = c.before.before.before in
     let s = k.before.before.before.before.before.args in
-    let h = recordOf s.shape s.h.now in
+    let h = record_of s.shape s.h.now in
     let a = k.before.before.before.before.admit.ensures in
-    (unasked-quark h _ _ _ _ a.0 k.before.before.enum_told.given.1 (sym k.before.finished.ensures ∙ k.if1.false) c.if2.true, a.1))
+    (unasked_quark h _ _ _ _ a.0 k.before.before.enum_told.given.1 (sym k.before.finished.ensures ∙ k.if1.false) c.if2.true, a.1))
     (λ c.
     let k = c.before.before.before in
     let s = k.before.before.before.before.before.args in
-    let h = recordOf s.shape s.h.now in
+    let h = record_of s.shape s.h.now in
     let a = k.before.before.before.before.admit.ensures in
-    (unasked-fine h _ _ _ _ a.0 k.before.before.enum_told.given.1 (sym k.before.finished.ensures ∙ k.if1.false) c.if2.false, a.1)))
+    (unasked_fine h _ _ _ _ a.0 k.before.before.enum_told.given.1 (sym k.before.finished.ensures ∙ k.if1.false) c.if2.false, a.1)))

@@ -2,7 +2,7 @@
 use mathlib.Core.Path.{refl}
 use borrow.Author.Rules.{rules}
 use Rattle.build.proofs.Trials.{refused}
-use Rattle.calls.proofs.Openings.{opens-standing, opens-table, open-refused, open_done}
+use Rattle.calls.proofs.Openings.{opens_standing, opens_table, open_refused, open_done}
 use Rattle.calls.proofs.opening.open.Statement.{statement}
 use Rattle.calls.proofs.opening.open.Tie as tie
 
@@ -13,14 +13,14 @@ open_spec =
     (λ c κs. search rules)
     (λ c κs. search rules)
     (λ c. search rules)
-    (λ c. (c.before.before.entire.ensures.1, open-refused _ _ _ _ _ _ _ c.before.refusal.ensures (refused c.before.refusal.result c.match.keys2)))
+    (λ c. (c.before.before.entire.ensures.1, open_refused _ _ _ _ _ _ _ c.before.refusal.ensures (refused c.before.refusal.result c.match.keys2)))
     (λ c κs. search rules)
     (λ c κs.
     let k = c.before.before.before.before in
-    opens-standing _ _ _ _ _ _ k.before.before.refusal.ensures k.enum_told.given.1 _ _ refl (c.before.before.begin.ensures.1 _))
+    opens_standing _ _ _ _ _ _ k.before.before.refusal.ensures k.enum_told.given.1 _ _ refl (c.before.before.begin.ensures.1 _))
     (λ c κs.
     let k = c.before.before.before.before.before.before.before.before in
-    opens-table _ _ _ _ _ _ k.before.before.refusal.ensures k.enum_told.given.1)
+    opens_table _ _ _ _ _ _ k.before.before.refusal.ensures k.enum_told.given.1)
     (λ c. search rules)
     (λ c. search rules)
     (λ c.

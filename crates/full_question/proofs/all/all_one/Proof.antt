@@ -6,14 +6,14 @@ use mathlib.Core.Bool.{Bool}
 use native.Mathlib.Omega.{arith}
 use lib.ListN.{get_or}
 use Rattle.questions.specs.Found.{shown}
-use Rattle.full_question.specs.Full.{everyQuark}
-use Rattle.full_question.proofs.Fulls.{every-none, every-next}
-use Rattle.full_question.proofs.Once.{once-shown}
+use Rattle.full_question.specs.Full.{every_quark}
+use Rattle.full_question.proofs.Fulls.{every_none, every_next}
+use Rattle.full_question.proofs.Once.{once_shown}
 use Rattle.full_question.proofs.all.all_one.Statement.{statement}
 use Rattle.full_question.proofs.all.all_one.Tie as tie
 
 abbrev invariant-loop : tie.invariant-loop
-invariant-loop found n i₀ all₀ i all = (i ≤ n) × (all ≡ everyQuark (λ q. shown (get_or found q 0)) i)
+invariant-loop found n i₀ all₀ i all = (i ≤ n) × (all ≡ every_quark (λ q. shown (get_or found q 0)) i)
 
 abbrev decreases-loop : tie.decreases-loop
 decreases-loop found n i₀ all₀ i all = n - i
@@ -22,12 +22,12 @@ loop-again : tie.Need-loop-preserved invariant-loop decreases-loop
 loop-again c =
     let a = c.before.before.before in
     let f : ℕ → Bool = λ q. shown (get_or a.args.found.now q 0) in
-    (omega arith, every-next f _ _ _ c.before.before.loop.invariant.1 (once-shown _ _ _ a.requires.1 c.before.loop-test.true))
+    (omega arith, every_next f _ _ _ c.before.before.loop.invariant.1 (once_shown _ _ _ a.requires.1 c.before.loop-test.true))
 
 returns : tie.Need-returns invariant-loop decreases-loop
 returns c =
     let f : ℕ → Bool = λ q. shown (get_or c.before.before.args.found.now q 0) in
-    c.before.loop.invariant.1 ∙ ap (everyQuark f) (omega arith)
+    c.before.loop.invariant.1 ∙ ap (every_quark f) (omega arith)
 
 pub all-one-spec : {M : Type 1} → statement M
 all-one-spec =
@@ -35,7 +35,7 @@ all-one-spec =
     (tie.spec
     invariant-loop
     decreases-loop
-    (λ c. (omega arith, sym (every-none _)))
+    (λ c. (omega arith, sym (every_none _)))
     (λ c. search rules)
     (λ c. search rules)
     (λ c. search rules)

@@ -1,7 +1,7 @@
 -- By its two cases. Assumes nothing.
 use borrow.Author.Rules.{rules}
 use lib.ListN.{length-set}
-use Rattle.full_question.proofs.Tables.{begun-yes, begun-no}
+use Rattle.full_question.proofs.Tables.{begun_yes, begun_no}
 use Rattle.full_question.proofs.all.begin.Statement.{statement}
 use Rattle.full_question.proofs.all.begin.Tie as tie
 
@@ -12,5 +12,5 @@ begin-spec =
     (λ c. search rules)
     (λ c. search rules)
     (λ c. simp length-set)
-    (λ c. begun-yes _ _ _ _ c.if1.true)
-    (λ c. begun-no _ _ _ _ c.if1.false))
+    (λ c. begun_yes _ _ _ _ c.if1.true)
+    (λ c. begun_no _ _ _ _ c.if1.false))

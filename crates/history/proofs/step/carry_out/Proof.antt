@@ -1,6 +1,6 @@
 -- `history::step::carry_out` meets its contract. Assumes nothing.
 use borrow.Author.Rules.{rules}
-use Rattle.history.proofs.Records.{not-open, is_open}
+use Rattle.history.proofs.Records.{not_open, is_open}
 use Rattle.history.proofs.step.carry_out.Statement.{statement}
 use Rattle.history.proofs.step.carry_out.Tie as tie
 
@@ -10,7 +10,7 @@ carry-out-spec =
     (tie.spec
     (λ c κs. search rules)
     (λ c κs. search rules)
-    (λ c. not-open _ _ _ _ _ _ c.before.before.opens.result c.before.before.opens.ensures c.before.before.before.entire.ensures.1 c.if1.true)
+    (λ c. not_open _ _ _ _ _ _ c.before.before.opens.result c.before.before.opens.ensures c.before.before.before.entire.ensures.1 c.if1.true)
     (λ c κs. c.before.before.before.before.before.before.before.entire.ensures.1)
     (λ c. search rules)
     (λ c. search rules)

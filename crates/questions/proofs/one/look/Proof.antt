@@ -8,21 +8,21 @@ use native.Mathlib.Nat.{sub-zero}
 use native.Mathlib.Omega.{arith}
 use lib.Dec.{leb, eqb}
 use Rattle.layout.specs.declared.Entry.{Entry}
-use Rattle.layout.specs.Layout.{entrySize}
-use Rattle.walk.specs.Since.{entryFits}
-use Rattle.walk.specs.Walk.{allSound}
+use Rattle.layout.specs.Layout.{entry_size}
+use Rattle.walk.specs.Since.{entry_fits}
+use Rattle.walk.specs.Walk.{all_sound}
 use Rattle.questions.specs.Found.{noted, look}
-use Rattle.walk.proofs.Broken.{false-is}
-use Rattle.walk.proofs.Entries.{states-more, spans-told}
-use Rattle.walk.proofs.Walks.{sound-turn, sound-stop, sound-done}
-use Rattle.questions.proofs.Finds.{noted-yes, noted-no, noted_other, look-turn, look-done}
+use Rattle.walk.proofs.Broken.{false_is}
+use Rattle.walk.proofs.Entries.{states_more, spans_told}
+use Rattle.walk.proofs.Walks.{sound_turn, sound_stop, sound_done}
+use Rattle.questions.proofs.Finds.{noted_yes, noted_no, noted_other, look_turn, look_done}
 use Rattle.questions.proofs.one.look.Statement.{statement}
 use Rattle.questions.proofs.one.look.Tie as tie
 
 abbrev invariant-loop : tie.invariant-loop
 invariant-loop nodes attributes h quark t at n found p₀ end nulls₀ kinds₀ s₀ span now p nulls kinds s =
-    (i : ℕ) × (i ≤ n) × (p ≡ at + entrySize * i)
-    × (allSound nodes attributes h at n true ≡ allSound nodes attributes h p (n - i) (eqb nulls 0 && leb kinds 1))
+    (i : ℕ) × (i ≤ n) × (p ≡ at + entry_size * i)
+    × (all_sound nodes attributes h at n true ≡ all_sound nodes attributes h p (n - i) (eqb nulls 0 && leb kinds 1))
     × (look nodes quark.0 t at n found ≡ look nodes quark.0 t p (n - i) s)
 
 abbrev decreases-loop : tie.decreases-loop
@@ -36,15 +36,15 @@ end_fits : (c : tie.After-read-entry invariant-loop decreases-loop) → c.read-e
 end_fits c = search rules
 
 -- the node's span leads from its start to its end
-spanned : (a start end : ℕ) (e : Entry) (f : Bool) → start ≤ end → f ≡ entryFits a start (start + (end - start)) e → f ≡ entryFits a start end e
-spanned a start end e f le is = is ∙ ap (λ (x : ℕ). entryFits a start x e) (omega arith)
+spanned : (a start end : ℕ) (e : Entry) (f : Bool) → start ≤ end → f ≡ entry_fits a start (start + (end - start)) e → f ≡ entry_fits a start end e
+spanned a start end e f le is = is ∙ ap (λ (x : ℕ). entry_fits a start x e) (omega arith)
 
 returns : tie.Need-returns invariant-loop decreases-loop
 returns c =
     let k = c.before.before in
     let inv = k.before.before.loop.invariant in
     let a = k.before.before.before.before.before.before in
-    (sym (inv.3 ∙ sound-stop _ _ _ _ _ _ _ _ _ k.read-entry.ensures (spanned _ _ _ _ _ a.requires.2 c.before.fits2.ensures) (left k.before) c.if1.true), λ e. absurd (false-is e))
+    (sym (inv.3 ∙ sound_stop _ _ _ _ _ _ _ _ _ k.read-entry.ensures (spanned _ _ _ _ _ a.requires.2 c.before.fits2.ensures) (left k.before) c.if1.true), λ e. absurd (false_is e))
 
 loop-again : tie.Need-loop-preserved invariant-loop decreases-loop
 loop-again c =
@@ -55,17 +55,17 @@ loop-again c =
     let a = k.before.before.before.before.before.before in
     let e = k.read-entry.ensures in
     let lt = left k.before in
-    let covered = spans-told _ _ _ _ _ f.before.fits2.ensures f.if1.false _ _ (end_fits k) k.before.before.before.since.ensures in
+    let covered = spans_told _ _ _ _ _ f.before.fits2.ensures f.if1.false _ _ (end_fits k) k.before.before.before.since.ensures in
     let Is : Type 0 = c.if2.s ≡ noted a.args.quark.0 a.args.t l.p k.read-entry.result l.s in
     let is : Is =
-    ⊎_elim {C = Is} (λ w. noted-yes _ _ _ _ _ _ w.0.taken _ (covered _ w.2.ensures) _ w.1.ensures w.3.taken w.4)
-    (⊎_elim {C = Is} (λ w. noted-no _ _ _ _ _ _ w.0.taken _ (covered _ w.2.ensures) w.3.left w.4) (λ w. noted_other _ _ _ _ _ _ w.0.left w.1)) c.if2.branch
+    ⊎_elim {C = Is} (λ w. noted_yes _ _ _ _ _ _ w.0.taken _ (covered _ w.2.ensures) _ w.1.ensures w.3.taken w.4)
+    (⊎_elim {C = Is} (λ w. noted_no _ _ _ _ _ _ w.0.taken _ (covered _ w.2.ensures) w.3.left w.4) (λ w. noted_other _ _ _ _ _ _ w.0.left w.1)) c.if2.branch
     in (
       l.invariant.0 + 1,
       omega arith,
       omega arith,
-      l.invariant.3 ∙ sound-turn _ _ _ _ _ _ _ _ _ e (spanned _ _ _ _ _ a.requires.2 f.before.fits2.ensures) lt _ (states-more l.nulls j.nulls.result l.kinds j.before.kinds.result k.read-entry.result j.before.kinds.ensures j.nulls.ensures) f.if1.false,
-      l.invariant.4 ∙ look-turn _ _ _ _ _ _ _ _ _ e is lt,
+      l.invariant.3 ∙ sound_turn _ _ _ _ _ _ _ _ _ e (spanned _ _ _ _ _ a.requires.2 f.before.fits2.ensures) lt _ (states_more l.nulls j.nulls.result l.kinds j.before.kinds.result k.read-entry.result j.before.kinds.ensures j.nulls.ensures) f.if1.false,
+      l.invariant.4 ∙ look_turn _ _ _ _ _ _ _ _ _ e is lt,
     )
 
 returns-2 : tie.Need-returns-2 invariant-loop decreases-loop
@@ -73,7 +73,7 @@ returns-2 c =
     let inv = c.before.loop.invariant in
     let a = c.before.before.before.before.before in
     let le : a.args.n ≤ inv.0 = omega (arith, c.loop-test.false) in
-    (sym (inv.3 ∙ sound-done _ _ _ _ _ _ _ le), λ e. sym (inv.4 ∙ look-done _ _ _ _ _ _ _ le))
+    (sym (inv.3 ∙ sound_done _ _ _ _ _ _ _ le), λ e. sym (inv.4 ∙ look_done _ _ _ _ _ _ _ le))
 
 pub look_spec : {M : Type 1} → statement M
 look_spec =

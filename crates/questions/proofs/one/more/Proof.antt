@@ -1,6 +1,6 @@
 -- By its two cases. Assumes nothing.
 use borrow.Author.Rules.{rules}
-use Rattle.questions.proofs.Finds.{more-first, more-many}
+use Rattle.questions.proofs.Finds.{more_first, more_many}
 use Rattle.questions.proofs.one.more.Statement.{statement}
 use Rattle.questions.proofs.one.more.Tie as tie
 
@@ -9,5 +9,5 @@ more-spec =
     tie.close
     (tie.spec
     (λ c. search rules)
-    (λ c. search more-first)
-    (λ c. search more-many))
+    (λ c. search more_first)
+    (λ c. search more_many))

@@ -3,14 +3,14 @@ use Prim.Native.Nat.{◌≤◌, ◌+◌, ◌-◌}
 use mathlib.Core.Path.{◌≡◌}
 use native.Mathlib.Omega.{arith}
 use borrow.Author.Rules.{rules}
-use Rattle.record.specs.Record.{branchOf}
+use Rattle.record.specs.Record.{branch_of}
 use Rattle.record.specs.Sound.{apart}
-use Rattle.record.proofs.Runs.{apartFrom, apart-begin, apart-fail, apart-turn, apart-end}
+use Rattle.record.proofs.Runs.{apart_from, apart_begin, apart_fail, apart_turn, apart_end}
 use Rattle.record.proofs.sound.apart.Statement.{statement}
 use Rattle.record.proofs.sound.apart.Tie as tie
 
 abbrev invariant-loop : tie.invariant-loop
-invariant-loop h level top place above₀ above = (above ≤ top + 1) × (apartFrom (branchOf h) level top above ≡ apart (branchOf h) level (top - level))
+invariant-loop h level top place above₀ above = (above ≤ top + 1) × (apart_from (branch_of h) level top above ≡ apart (branch_of h) level (top - level))
 
 abbrev decreases-loop : tie.decreases-loop
 decreases-loop h level top place above₀ above = top + 1 - above
@@ -22,11 +22,11 @@ apart-spec =
     (λ c. search rules)
     (λ c. search rules)
     (λ c. search rules)
-    (λ c. (search rules, apart-begin _ _ _))
+    (λ c. (search rules, apart_begin _ _ _))
     (λ c. search rules)
     (λ c. search rules)
-    (λ c. search apart-fail)
+    (λ c. search apart_fail)
     (λ c. search rules)
     (λ c. search rules)
-    (λ c. (omega arith, search apart-turn))
-    (λ c. search apart-end))
+    (λ c. (omega arith, search apart_turn))
+    (λ c. search apart_end))

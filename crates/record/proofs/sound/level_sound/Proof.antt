@@ -8,29 +8,29 @@ use lib.ListN.{get_or}
 use borrow.Author.Rules.{rules}
 use borrow.Author.Tests.{le-leb, lt-leb, le-ltb, lt-ltb}
 use Rattle.layout.specs.declared.Shape.{Shape}
-use Rattle.record.specs.Record.{branchOf, usedIn}
-use Rattle.record.specs.Sound.{levelSound}
-use Rattle.record.proofs.Lies.{place-lies, intervals-lie, children-lie}
+use Rattle.record.specs.Record.{branch_of, used_in}
+use Rattle.record.specs.Sound.{level_sound}
+use Rattle.record.proofs.Lies.{place_lies, intervals_lie, children_lie}
 use Rattle.record.proofs.sound.level_sound.Statement.{statement}
 use Rattle.record.proofs.sound.level_sound.Tie as tie
 
 module _ (s : Shape) (w : List ℕ) (l : ℕ) (small : l < 16) where
-  intervals-over : s.k < get_or w (32 + l) 0 → false ≡ levelSound (branchOf w) s (usedIn w) l
-  unfolding levelSound
-  intervals-over over = simp (intervals-lie w l small, lt-leb _ _ over)
+  intervals-over : s.k < get_or w (32 + l) 0 → false ≡ level_sound (branch_of w) s (used_in w) l
+  unfolding level_sound
+  intervals-over over = simp (intervals_lie w l small, lt-leb _ _ over)
 
-  place-unused : usedIn w ≤ get_or w l 0 → false ≡ levelSound (branchOf w) s (usedIn w) l
-  unfolding levelSound
-  place-unused unused = simp (place-lies w l small, le-ltb _ _ unused, and-false)
+  place-unused : used_in w ≤ get_or w l 0 → false ≡ level_sound (branch_of w) s (used_in w) l
+  unfolding level_sound
+  place-unused unused = simp (place_lies w l small, le-ltb _ _ unused, and-false)
 
-  children-over : s.c < get_or w (48 + l) 0 → false ≡ levelSound (branchOf w) s (usedIn w) l
-  unfolding levelSound
-  children-over over = simp (children-lie w l small, lt-leb _ _ over, and-false)
+  children-over : s.c < get_or w (48 + l) 0 → false ≡ level_sound (branch_of w) s (used_in w) l
+  unfolding level_sound
+  children-over over = simp (children_lie w l small, lt-leb _ _ over, and-false)
 
-  child-left : get_or w (32 + l) 0 ≤ s.k → get_or w l 0 < usedIn w → get_or w (48 + l) 0 ≤ s.c → eqb l 0 || leb 1 (get_or w (48 + l) 0) ≡ levelSound (branchOf w) s (usedIn w) l
-  unfolding levelSound
+  child-left : get_or w (32 + l) 0 ≤ s.k → get_or w l 0 < used_in w → get_or w (48 + l) 0 ≤ s.c → eqb l 0 || leb 1 (get_or w (48 + l) 0) ≡ level_sound (branch_of w) s (used_in w) l
+  unfolding level_sound
   child-left intervals placed children =
-      simp (intervals-lie w l small, place-lies w l small, children-lie w l small, le-leb _ _ intervals, lt-ltb _ _ placed, le-leb _ _ children)
+      simp (intervals_lie w l small, place_lies w l small, children_lie w l small, le-leb _ _ intervals, lt-ltb _ _ placed, le-leb _ _ children)
 
 pub level-sound-spec : {M : Type 1} → statement M
 level-sound-spec =

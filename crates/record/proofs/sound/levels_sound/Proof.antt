@@ -4,15 +4,15 @@ use mathlib.Core.Path.{◌≡◌, refl}
 use native.Mathlib.Omega.{arith}
 use lib.ListN.{get_or}
 use borrow.Author.Rules.{rules}
-use Rattle.record.specs.Record.{branchOf}
-use Rattle.record.specs.Sound.{levelsSound}
-use Rattle.record.proofs.Runs.{level-fails, places-fail, levels-turn, levels-end}
+use Rattle.record.specs.Record.{branch_of}
+use Rattle.record.specs.Sound.{levels_sound}
+use Rattle.record.proofs.Runs.{level_fails, places_fail, levels_turn, levels_end}
 use Rattle.record.proofs.sound.levels_sound.Statement.{statement}
 use Rattle.record.proofs.sound.levels_sound.Tie as tie
 
 abbrev invariant-loop : tie.invariant-loop
 invariant-loop h s low top level₀ level =
-    (level ≤ top + 1) × (levelsSound (branchOf h) s (get_or h 84 0) level top ≡ levelsSound (branchOf h) s (get_or h 84 0) low top)
+    (level ≤ top + 1) × (levels_sound (branch_of h) s (get_or h 84 0) level top ≡ levels_sound (branch_of h) s (get_or h 84 0) low top)
 
 abbrev decreases-loop : tie.decreases-loop
 decreases-loop h s low top level₀ level = top + 1 - level
@@ -23,13 +23,13 @@ levels-sound-spec =
     (tie.spec invariant-loop decreases-loop
     (λ c. (search rules, refl))
     (λ c κs. search rules)
-    (λ c. level-fails (branchOf _) _ _ _ _ _ c.before.before.before.loop.invariant.1 c.before.before.loop-test.true _ c.before.level-sound.ensures c.if1.true)
+    (λ c. level_fails (branch_of _) _ _ _ _ _ c.before.before.before.loop.invariant.1 c.before.before.loop-test.true _ c.before.level-sound.ensures c.if1.true)
     (λ c κs. search rules)
-    (λ c. places-fail (branchOf _) _ _ _ _ _ c.before.before.before.before.before.loop.invariant.1 c.before.before.before.before.loop-test.true _ c.before.before.before.level-sound.ensures c.before.before.if1.false _ c.before.apart.ensures c.if2.true)
+    (λ c. places_fail (branch_of _) _ _ _ _ _ c.before.before.before.before.before.loop.invariant.1 c.before.before.before.before.loop-test.true _ c.before.before.before.level-sound.ensures c.before.before.if1.false _ c.before.apart.ensures c.if2.true)
     (λ c. search rules)
     (λ c. search rules)
     (λ c. (
       omega arith,
-      levels-turn (branchOf _) _ _ _ _ _ c.before.before.before.before.before.loop.invariant.1 c.before.before.before.before.loop-test.true _ c.before.before.before.level-sound.ensures c.before.before.if1.false _ c.before.apart.ensures c.if2.false,
+      levels_turn (branch_of _) _ _ _ _ _ c.before.before.before.before.before.loop.invariant.1 c.before.before.before.before.loop-test.true _ c.before.before.before.level-sound.ensures c.before.before.if1.false _ c.before.apart.ensures c.if2.false,
     ))
-    (λ c. search levels-end))
+    (λ c. search levels_end))

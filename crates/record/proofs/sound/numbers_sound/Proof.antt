@@ -8,25 +8,25 @@ use lib.Dec.{leb}
 use borrow.Author.Rules.{rules}
 use borrow.Author.Tests.{le-leb}
 use Rattle.layout.specs.declared.Shape.{Shape}
-use Rattle.record.specs.Record.{History, recordOf, start_in, latestIn, largestEndIn, attributesIn, usedIn, topIn}
-use Rattle.record.specs.Sound.{lastTime, numbersSound}
+use Rattle.record.specs.Record.{History, record_of, start_in, latest_in, largest_end_in, attributes_in, used_in, top_in}
+use Rattle.record.specs.Sound.{last_time, numbers_sound}
 use Rattle.record.specs.Firm.{Numbered}
-use Rattle.record.proofs.Facts.{sound-numbered}
+use Rattle.record.proofs.Facts.{sound_numbered}
 use Rattle.record.proofs.sound.numbers_sound.Statement.{statement}
 use Rattle.record.proofs.sound.numbers_sound.Tie as tie
 
-numbers-not : (h : History) → (Numbered h → ⊥) → false ≡ numbersSound h
-numbers-not h n = go (numbersSound h) refl
+numbers-not : (h : History) → (Numbered h → ⊥) → false ≡ numbers_sound h
+numbers-not h n = go (numbers_sound h) refl
   where
-    go : (b : Bool) → numbersSound h ≡ b → false ≡ b
-    go true e = absurd (n (sound-numbered h e))
+    go : (b : Bool) → numbers_sound h ≡ b → false ≡ b
+    go true e = absurd (n (sound_numbered h e))
     go false e = refl
 
 -- "start is at or below latest", since S lies between them
-used-left : (s : Shape) (w : List ℕ) → attributesIn w ≤ 4096 → latestIn w ≤ lastTime → start_in w ≤ largestEndIn w → largestEndIn w ≤ latestIn w → topIn w ≤ 15 → leb 1 (usedIn w) && leb (usedIn w) s.n ≡ numbersSound (recordOf s w)
-unfolding numbersSound
+used-left : (s : Shape) (w : List ℕ) → attributes_in w ≤ 4096 → latest_in w ≤ last_time → start_in w ≤ largest_end_in w → largest_end_in w ≤ latest_in w → top_in w ≤ 15 → leb 1 (used_in w) && leb (used_in w) s.n ≡ numbers_sound (record_of s w)
+unfolding numbers_sound
 used-left s w attributes latest from to top =
-    simp (le-leb _ _ attributes, le-leb _ _ latest, le-leb (start_in w) (latestIn w) (omega arith), le-leb _ _ from, le-leb _ _ to, le-leb _ _ top)
+    simp (le-leb _ _ attributes, le-leb _ _ latest, le-leb (start_in w) (latest_in w) (omega arith), le-leb _ _ from, le-leb _ _ to, le-leb _ _ top)
 
 pub numbers-sound-spec : {M : Type 1} → statement M
 numbers-sound-spec =

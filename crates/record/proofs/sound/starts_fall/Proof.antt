@@ -3,14 +3,14 @@ use Prim.Native.Nat.{◌≤◌, ◌-◌}
 use mathlib.Core.Path.{◌≡◌, refl}
 use native.Mathlib.Omega.{arith}
 use borrow.Author.Rules.{rules}
-use Rattle.record.specs.Record.{branchOf}
-use Rattle.record.specs.Sound.{startsFall}
-use Rattle.record.proofs.Runs.{starts-fail, starts-turn, starts-end}
+use Rattle.record.specs.Record.{branch_of}
+use Rattle.record.specs.Sound.{starts_fall}
+use Rattle.record.proofs.Runs.{starts_fail, starts_turn, starts_end}
 use Rattle.record.proofs.sound.starts_fall.Statement.{statement}
 use Rattle.record.proofs.sound.starts_fall.Tie as tie
 
 abbrev invariant-loop : tie.invariant-loop
-invariant-loop h low top level₀ level = (level ≤ top) × (startsFall (branchOf h) level top ≡ startsFall (branchOf h) low top)
+invariant-loop h low top level₀ level = (level ≤ top) × (starts_fall (branch_of h) level top ≡ starts_fall (branch_of h) low top)
 
 abbrev decreases-loop : tie.decreases-loop
 decreases-loop h low top level₀ level = top - level
@@ -26,8 +26,8 @@ starts-fall-spec =
     (λ c. search rules)
     (λ c. search rules)
     (λ c. search rules)
-    (λ c. search starts-fail)
+    (λ c. search starts_fail)
     (λ c. search rules)
     (λ c. search rules)
-    (λ c. (omega arith, search starts-turn))
-    (λ c. search starts-end))
+    (λ c. (omega arith, search starts_turn))
+    (λ c. search starts_end))

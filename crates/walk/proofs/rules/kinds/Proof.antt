@@ -1,6 +1,6 @@
 -- By the law of the kinds. Assumes nothing.
 use Rattle.std.proofs.Common.{rules}
-use Rattle.walk.proofs.Entries.{or-small}
+use Rattle.walk.proofs.Entries.{or_small}
 use Rattle.walk.proofs.rules.kinds.Statement.{statement}
 use Rattle.walk.proofs.rules.kinds.Tie as tie
 
@@ -9,4 +9,4 @@ kinds-spec =
     tie.close
     (tie.spec
     (λ c. search rules)
-    (λ c. or-small c.before.args.before c.before.args.e.kind))
+    (λ c. or_small c.before.args.before c.before.args.e.kind))

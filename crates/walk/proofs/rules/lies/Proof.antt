@@ -1,5 +1,5 @@
--- Each `return` cites the law of its way through `entryFits`. Assumes nothing.
-use Rattle.walk.proofs.Entries.{fits-quark, fits-end, fits-start, fits_last}
+-- Each `return` cites the law of its way through `entry_fits`. Assumes nothing.
+use Rattle.walk.proofs.Entries.{fits_quark, fits_end, fits_start, fits_last}
 use Rattle.walk.proofs.rules.lies.Statement.{statement}
 use Rattle.walk.proofs.rules.lies.Tie as tie
 
@@ -13,7 +13,7 @@ pub lies-spec : {M : Type 1} → statement M
 lies-spec =
     tie.close
     (tie.spec
-    (λ c. fits-quark _ _ _ _ c.if1.true)
-    (λ c. fits-end _ _ _ _ c.if2.true)
-    (λ c. fits-start _ _ _ _ c.if3.true)
+    (λ c. fits_quark _ _ _ _ c.if1.true)
+    (λ c. fits_end _ _ _ _ c.if2.true)
+    (λ c. fits_start _ _ _ _ c.if3.true)
     returns-4)

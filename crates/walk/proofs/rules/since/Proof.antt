@@ -1,6 +1,6 @@
 -- What the start added to wraps back to the time: one number alone. Assumes nothing.
 use Rattle.std.proofs.Common.{◌≤◌, rules}
-use Rattle.walk.proofs.Entries.{since-done}
+use Rattle.walk.proofs.Entries.{since_done}
 use Rattle.walk.proofs.rules.since.Statement.{statement}
 use Rattle.walk.proofs.rules.since.Tie as tie
 
@@ -15,4 +15,4 @@ since-spec =
     tie.close
     (tie.spec
     (λ c κs. search rules)
-    (λ c. since-done _ _ _ (result_fits c) (start_fits c.before) c.wrapping-sub-u64.ensures))
+    (λ c. since_done _ _ _ (result_fits c) (start_fits c.before) c.wrapping-sub-u64.ensures))

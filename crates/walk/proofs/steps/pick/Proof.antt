@@ -2,7 +2,7 @@
 use Rattle.std.proofs.Common.{◌≡◌, ◌+◌, ◌*◌, ◌≤◌, sym, refl, ◌∙◌, arith, rules}
 use Rattle.layout.specs.Layout.{child_size}
 use Rattle.walk.specs.Walk.{pick}
-use Rattle.walk.proofs.Ways.{pick-here, pick-before, pick-none}
+use Rattle.walk.proofs.Ways.{pick_here, pick_before, pick_none}
 use Rattle.walk.proofs.steps.pick.Statement.{statement}
 use Rattle.walk.proofs.steps.pick.Tie as tie
 
@@ -16,13 +16,13 @@ returns : tie.Need-returns invariant-loop decreases-loop
 returns c =
     let k = c.before.before in
     let inv = k.before.loop.invariant in
-    (sym (inv.2 ∙ pick-here _ _ _ _ _ _ k.loop-test.true (omega arith) c.before.get.ensures.0 c.if1.true), inv.0)
+    (sym (inv.2 ∙ pick_here _ _ _ _ _ _ k.loop-test.true (omega arith) c.before.get.ensures.0 c.if1.true), inv.0)
 
 loop-again : tie.Need-loop-preserved invariant-loop decreases-loop
 loop-again c =
     let k = c.before.before in
     let inv = k.before.loop.invariant in
-    (omega arith, omega arith, inv.2 ∙ pick-before _ _ _ _ _ _ k.loop-test.true (omega arith) c.before.get.ensures.0 c.if1.false)
+    (omega arith, omega arith, inv.2 ∙ pick_before _ _ _ _ _ _ k.loop-test.true (omega arith) c.before.get.ensures.0 c.if1.false)
 
 pub pick_spec : {M : Type 1} → statement M
 pick_spec =
@@ -40,4 +40,4 @@ pick_spec =
     (λ c. search rules)
     (λ c. search rules)
     loop-again
-    (λ c. (sym (c.before.loop.invariant.2 ∙ pick-none _ _ _ _ c.loop-test.false), omega arith)))
+    (λ c. (sym (c.before.loop.invariant.2 ∙ pick_none _ _ _ _ c.loop-test.false), omega arith)))
