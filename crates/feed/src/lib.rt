@@ -1,4 +1,6 @@
 // The feed: "Records, little-endian: tag u8, payload length u16, payload." One plain function, on a feed and a place, reads a record.
+#![tactic(auto)]
+
 ghost use Rattle.std.specs.Prelude.{◌≡◌, ◌+◌, ◌≤◌, ◌<◌, length};
 ghost use Rattle.feed.specs.Feed.{longest, tag_known, length_allowed, quark_at, open_at, set_at, Payload, payload_at, head_at, whole_at, reading_at};
 
@@ -6,7 +8,7 @@ use layout::Quark;
 use record::Refusal;
 
 // A record, with the numbers of its tag.
-#[derive(Drop)]
+#[derive(Clone, Copy)]
 pub enum Record {
     Open {
         start: u64,
@@ -42,7 +44,7 @@ pub enum Record {
 }
 
 // What stands at a place: nothing, a record, or what refuses it; the last two with the next place.
-#[derive(Drop)]
+#[derive(Clone, Copy)]
 pub enum Reading {
     End,
     Read(Record, usize),
@@ -50,7 +52,7 @@ pub enum Reading {
 }
 
 // The first three bytes of a record: its tag and its payload's length; or the feed ends inside the record.
-#[derive(Drop)]
+#[derive(Clone, Copy)]
 enum Head {
     Whole { tag: u64, n: usize },
     Short,

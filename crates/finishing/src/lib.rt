@@ -1,4 +1,6 @@
 // Finishing a history. What it comes to is defined with the other calls (calls/specs/Finish.antt).
+#![tactic(auto)]
+
 ghost use Rattle.std.specs.Prelude.{◌≡◌, ◌/◌, ◌≤◌, length};
 ghost use Rattle.layout.specs.Layout.{entry_size};
 ghost use Rattle.record.specs.Record.{record_of, attributes_in};

@@ -1,4 +1,6 @@
 // The program `history`: reads a feed from standard input, carries each record out, prints what it says.
+#![tactic(auto)]
+
 mod step; // step.rt: one record carried out
 mod print; // print.rt: what a record is answered, as text
 

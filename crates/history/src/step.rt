@@ -17,14 +17,14 @@ pub struct State {
 }
 
 // What there is to show of an answer.
-#[derive(Drop)]
+#[derive(Clone, Copy)]
 pub enum Shown {
     Said(Refusal),
     One(Single),
     All(Full),
 }
 
-#[derive(Drop)]
+#[derive(Clone, Copy)]
 pub struct Done {
     pub state: State,
     pub shown: Shown,

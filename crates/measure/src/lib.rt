@@ -1,4 +1,6 @@
 // The library's calls and questions, many in one call, for tests/bench: a script is carried out on one history. Not part of the product's interface.
+#![tactic(auto)]
+
 ghost use Rattle.std.specs.Prelude.{◌≡◌, ◌+◌, ◌≤◌, ◌<◌, length};
 ghost use Rattle.std.proofs.lemmas.List.Edits.{sets};
 ghost use Rattle.record.specs.Record.{record_of};
@@ -109,8 +111,7 @@ fn play(
 }
 
 // Opens a history and carries the script out on it. Returns the number that the opening answers; where it is refused, the record is zeros and every call of the script is refused too.
-#[unsafe(no_mangle)]
-pub extern "C" fn history_measure(
+pub fn history_measure(
     start: u64,
     attributes: u32,
     k: u32,
@@ -149,8 +150,7 @@ fn finished(start: u64, latest: u64, attributes: u32, used: u32, root: u32, top:
 }
 
 // Carries the script out on a finished history whose nodes are lent, so that questions can be timed alone. Returns 3, and does nothing, where its root's level is none of the sixteen.
-#[unsafe(no_mangle)]
-pub extern "C" fn history_measure_finished(
+pub fn history_measure_finished(
     start: u64,
     latest: u64,
     attributes: u32,

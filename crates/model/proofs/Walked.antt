@@ -2,7 +2,7 @@
 use Prim.Native.Nat.{ℕ, suc, ◌≤◌}
 use mathlib.Core.Path.{◌≡◌, sym, ap, ◌∙◌, subst}
 use mathlib.Core.List.{List}
-use mathlib.Core.Option.{none, some}
+use mathlib.Core.Option.{none}
 use native.Mathlib.Omega.{arith}
 use Rattle.model.specs.Transient.{Call, History, history}
 use Rattle.model.specs.Build.{Head, Subtrees, childless, also, Shape}

@@ -1,4 +1,6 @@
 // The questions on a finished history for the page server, on plain numbers and byte slices.
+#![tactic(auto)]
+
 ghost use Rattle.std.specs.Prelude.{◌≡◌, true, length};
 ghost use Rattle.record.specs.Refusals.{number_of};
 ghost use Rattle.page.specs.Page.{finished_view, head_refusal, single_refusal, single_written, full_refusal, full_written};
@@ -107,8 +109,7 @@ fn full_on(v: View, t: u64, nodes: &[u8], answer: &mut [u8]) -> u32
 }
 
 // "For the page server, written in Rust, both queries on a finished history are also exported on plain numbers and byte slices."
-#[unsafe(no_mangle)]
-pub extern "C" fn history_single(
+pub fn history_single(
     start: u64,
     latest: u64,
     attributes: u32,
@@ -129,8 +130,7 @@ pub extern "C" fn history_single(
     single_on(v, t, quark, nodes, answer)
 }
 
-#[unsafe(no_mangle)]
-pub extern "C" fn history_full(
+pub fn history_full(
     start: u64,
     latest: u64,
     attributes: u32,

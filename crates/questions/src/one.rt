@@ -17,7 +17,7 @@ use walk::{View, known, rules, steps};
 const MANY: u64 = 0xffff_ffff;
 
 // What one node's entries say: R6 of all of them, and what was found so far.
-#[derive(Drop)]
+#[derive(Clone, Copy)]
 pub struct Seen {
     pub sound: bool,
     pub found: u64,

@@ -1,4 +1,6 @@
 // The record of a history: its numbers and its open branch; and what a call says.
+#![tactic(auto)]
+
 pub mod sound; // sound.rt: when a record is sound, and buffers long enough for it
 pub mod moves; // moves.rt: the only ways in which a record changes
 
@@ -32,7 +34,7 @@ pub const LOW: usize = 85;
 pub const TOP: usize = 86;
 
 // "What a call says": a name for each number of document 01's table.
-#[derive(Drop)]
+#[derive(Clone, Copy)]
 pub enum Refusal {
     Nothing,
     Numbers,
@@ -54,6 +56,7 @@ pub enum Refusal {
 }
 
 // The paper's number of an answer.
+#[tactic(auto, unfolding(crate::specs::Refusals::number_of))]
 pub fn number(r: Refusal) -> u32
     ensures { result ≡ number_of r }
 {

@@ -10,7 +10,7 @@ use Rattle.layout.specs.declared.First.TheVariants.{OneChild}
 use Rattle.layout.specs.Layout.{node_size, encode, new_node}
 use Rattle.record.specs.Record.{History}
 use Rattle.record.specs.Levels.{seq_at, start_at, intervals_at, children_at}
-use Rattle.record.specs.Moves.{with_branch, closed, raised, made, stored}
+use Rattle.record.specs.Moves.{with_branch, raised, made, stored}
 use Rattle.record.proofs.Effects.{raised_at}
 use Rattle.build.specs.Moves.{Held, parent_at, head_of, stands_at, open_end, put_head, put_new, close, raise, with_child, make, store}
 use Rattle.model.specs.Build as M

@@ -1,4 +1,6 @@
 // Where an interval goes, and whether there is depth and room for it. "To store an interval starting at s, take the lowest open node with start at or below s."
+#![tactic(auto)]
+
 ghost use Rattle.std.specs.Prelude.{◌≡◌, ℕ, ◌-◌, ◌≤◌, ◌<◌};
 ghost use Rattle.record.specs.Record.{branch_of, record_of, used_in, low_in, top_in};
 ghost use Rattle.settle.specs.Settle.{ruled, ask_up, lowest, taken, settle, needed, plan_refusal};
@@ -8,7 +10,7 @@ use record::Refusal;
 
 // What is to be done to store an interval: close so many levels from the lowest up (one above the root is a new root),
 // then make a chain below `level` and store in its lowest node, or store in `level`.
-#[derive(Drop)]
+#[derive(Clone, Copy)]
 pub struct Plan {
     pub closes: u64,
     pub level: u64,
@@ -16,7 +18,7 @@ pub struct Plan {
 }
 
 // What rules 1 and 2 say of a node.
-#[derive(Drop)]
+#[derive(Clone, Copy)]
 pub enum Verdict {
     Here,
     Chain,
