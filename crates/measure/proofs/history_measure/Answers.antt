@@ -5,4 +5,4 @@ use Rattle.measure.proofs.history_measure.Goals as goal
 
 pub returns : goal.returns
 returns c =
-    measure_done _ _ _ _ _ _ _ _ _ _ _ _ _ _ c.«open».ensures _ _ _ _ _ c.play.ensures _ c.number.ensures
+    measure_done _ _ _ _ _ _ _ _ _ _ _ _ _ _ c.open-r.ensures _ _ _ _ _ c.play.ensures _ c.number.ensures
