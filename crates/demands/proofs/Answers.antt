@@ -11,7 +11,7 @@ use borrow.Author.Tests.{le-leb, lt-leb, eqb-true, ltb-false}
 use Rattle.layout.specs.Layout.{entry_size, entry_bytes, spread}
 use Rattle.record.specs.Record.{History}
 use Rattle.record.specs.declared.Refusal.TheVariants as R
-use Rattle.record.specs.Refusals.{number_of, accepted}
+use Rattle.record.specs.Refusals.{number_of}
 use Rattle.questions.specs.declared.Single.{Single}
 use Rattle.questions.specs.Single.{single_of}
 use Rattle.full_question.specs.Full.{full_refusal, full_of, full_written}
@@ -32,7 +32,7 @@ use Rattle.represents.proofs.Numbers.{zero_nothing}
 use Rattle.represents.proofs.OneAnswered.{single_answered}
 use Rattle.represents.proofs.AllAnswered.{full_answered}
 use Rattle.demands.specs.Runs.{single, full, State, Answer, says, quark, told, answered as asks, step}
-use Rattle.demands.specs.Sequences.{Sequence, now, taken, story}
+use Rattle.demands.specs.Sequences.{Sequence, now, story}
 use Rattle.demands.specs.Demands.{Between, NumbersSaid, SingleTells, FullTells, SingleScans, FullScans}
 use Rattle.demands.proofs.Standing.{known}
 use Rattle.demands.proofs.Mirrored.{ran, mirrored, allowed, fitting, leaves, builds}

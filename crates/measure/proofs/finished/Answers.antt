@@ -1,5 +1,4 @@
 -- `measure::finished` meets its contract. Assumes nothing.
-use borrow.Author.Rules.{rules}
 use Rattle.measure.proofs.Plays.{finished_long, finished_lies}
 use Rattle.measure.proofs.finished.Goals as goal
 

@@ -1,5 +1,4 @@
 -- `measure::history_measure` meets its contract: the opening, and the script on what it leaves. Assumes nothing.
-use borrow.Author.Rules.{rules}
 use Rattle.measure.proofs.Plays.{measure_done}
 use Rattle.measure.proofs.history_measure.Goals as goal
 

@@ -1,5 +1,4 @@
 -- `measure::history_measure_finished` meets its contract: the script on the record of a finished history. Assumes nothing.
-use borrow.Author.Rules.{rules}
 use Rattle.measure.proofs.Plays.{finished_none, finished_done}
 use Rattle.measure.proofs.history_measure_finished.Goals as goal
 

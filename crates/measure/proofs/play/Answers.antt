@@ -1,11 +1,6 @@
-use Prim.Native.Nat.{◌-◌, ◌/◌, ◌<◌}
-use mathlib.Core.Path.{◌≡◌, refl}
-use lib.ListN.{length}
-use native.Mathlib.Omega.{arith}
+use mathlib.Core.Path.{refl}
 use borrow.Author.Rules.{rules}
-use Rattle.record.specs.Record.{record_of}
-use Rattle.measure.specs.Measure.{state}
-use Rattle.measure.proofs.Plays.{Left, play_begins, play_turn, play_full, play_ends}
+use Rattle.measure.proofs.Plays.{play_begins, play_turn, play_full, play_ends}
 use Rattle.measure.proofs.play.Goals as goal
 
 pub loop-i-init : goal.loop-i-init

@@ -1,12 +1,10 @@
 -- `measure::play` meets its contract: what is left to carry out from the call reached is the whole. Assumes nothing.
 use Prim.Native.Nat.{◌-◌, ◌/◌, ◌<◌}
-use mathlib.Core.Path.{◌≡◌, refl}
+use mathlib.Core.Path.{◌≡◌}
 use lib.ListN.{length}
-use native.Mathlib.Omega.{arith}
-use borrow.Author.Rules.{rules}
 use Rattle.record.specs.Record.{record_of}
 use Rattle.measure.specs.Measure.{state}
-use Rattle.measure.proofs.Plays.{Left, play_begins, play_turn, play_full, play_ends}
+use Rattle.measure.proofs.Plays.{Left}
 use Rattle.measure.proofs.play.Given as goal
 
 abbrev pub invariant-loop-i : goal.invariant-loop-i

@@ -1,5 +1,4 @@
 -- `measure::step` meets its contract: each kind cites the law of its step. Assumes nothing.
-use borrow.Author.Rules.{rules}
 use Rattle.measure.proofs.Calls.{one_asked, all_asked, called_back, called_on}
 use Rattle.measure.proofs.step.Goals as goal
 
