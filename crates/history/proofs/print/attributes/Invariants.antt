@@ -1,0 +1,9 @@
+-- The entries before q are printed. The measure is how many are left.
+use Rattle.std.proofs.Common.{◌-◌, ◌≤◌}
+use Rattle.history.proofs.print.attributes.Given as goal
+
+abbrev pub invariant-loop-q : goal.invariant-loop-q
+invariant-loop-q g l = l.q ≤ l.n
+
+abbrev pub decreases-loop-q : goal.decreases-loop-q
+decreases-loop-q g l = l.n - l.q
