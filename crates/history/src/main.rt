@@ -4,8 +4,10 @@
 mod step; // step.rt: one record carried out
 mod print; // print.rt: what a record is answered, as text
 
-ghost use Rattle.std.specs.Prelude.{◌≤◌, ◌<◌, length, take, IfOk};
-ghost use Rattle.std.specs.Io.KnownBytes.{Consumes, IsAtEnd};
+ghost use Rattle.std.specs.Prelude.{◌≡◌, ◌≤◌, ◌<◌, length, take, IfOk, OnOk};
+ghost use Rattle.std.specs.Io.KnownBytes.{Consumes, IsAtEnd, Appends};
+ghost use Rattle.history.specs.Step.{state_in, none, carried};
+ghost use Rattle.history.specs.Printed.{held, held_in, answered, printed};
 
 use feed::{Reading, Record};
 use std::io;
@@ -39,7 +41,12 @@ fn turn<W: Write>(
     nodes: &mut [u8],
     table: &mut [u8],
     answer: &mut [u8],
-) -> io::Result<State> {
+) -> io::Result<State>
+    ensures printed { OnOk result (Appends (W.contents out.old) (W.contents out.new)
+        (answered i (carried r (state_in s h.old) nodes.old table.old answer.old))) }
+    ensures left { IfOk result (λ t. held (state_in t h.new) nodes.new table.new answer.new
+        ≡ held_in (carried r (state_in s h.old) nodes.old table.old answer.old)) }
+{
     let d = step::carry_out(r, s, h, nodes, table, answer);
     print::done(out, i, d, h[record::ATTRIBUTES], answer)?;
     Ok(d.state)
@@ -53,7 +60,10 @@ fn run<W: Write>(
     nodes: &mut [u8],
     table: &mut [u8],
     answer: &mut [u8],
-) -> io::Result<()> {
+) -> io::Result<()>
+    ensures { OnOk result (Appends (W.contents out.old) (W.contents out.new)
+        (printed bytes.now (held (state_in none h.old) nodes.old table.old answer.old))) }
+{
     let mut s = step::unopened();
     let mut place = 0;
     let mut i: u64 = 0;
