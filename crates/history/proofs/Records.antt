@@ -1,13 +1,10 @@
 -- Each way through a record. Assumes nothing.
 use Prim.Native.Nat.{ℕ}
 use mathlib.Core.Path.{◌≡◌, refl, sym, ap, ◌∙◌}
-use mathlib.Core.Bool.{Bool, true, false, cond, not, ◌||◌, false≢true}
-use mathlib.Core.List.{List, [], ◌∷◌}
+use mathlib.Core.Bool.{Bool, true, false, cond, ◌||◌, false≢true}
+use mathlib.Core.List.{List}
 use lib.IntN.{ℤ}
 use lib.ListN.{length}
-use types.Run.{OneOf, miss}
-use denote.Enum.Declared.{tag_of}
-use borrow.Author.Tests.{not-true, not-false}
 use Rattle.layout.specs.declared.Quark.{Quark}
 use Rattle.layout.specs.declared.Shape.{Shape}
 use Rattle.record.specs.Record.{History, record_of}
@@ -17,7 +14,6 @@ use Rattle.record.specs.Refusals.{accepted}
 use Rattle.build.specs.Write.{planted}
 use Rattle.transient.specs.declared.Change.TheVariants as Change
 use Rattle.feed.specs.declared.Record.{Record}
-use Rattle.feed.specs.contracts.Record.{the_type}
 use Rattle.feed.specs.declared.Record.TheVariants.{Open, Set, Remove, Increment, Add, Finish, Single, Full}
 use Rattle.calls.specs.Outcome.{Answer, Outcome, Comes, answered, outcome}
 use Rattle.calls.specs.Open.{blank, opened, table_opened, open_refusal, open_on, open_of}
@@ -33,26 +29,6 @@ use Rattle.history.specs.declared.step.State as Code
 use Rattle.history.specs.declared.step.Shown.TheVariants.{Said, One, All}
 use Rattle.history.specs.declared.step.Done as Coded
 use Rattle.history.specs.Step.{State, Leaves, leaving, done, state_in, done_in, open_as, said_of, holding, opened_by, after, after_open, opens, called, carried}
-
--- ---- tag 1
-
-pub opens_one : (r : Record) (start attributes k c n : ℕ) → r ≡ Open start attributes k c n → true ≡ opens r
-unfolding opens
-opens_one r start attributes k c n is = ap opens (sym is)
-
-abbrev others : List ℕ
-others = 1 ∷ 2 ∷ 3 ∷ 4 ∷ 5 ∷ 6 ∷ 7 ∷ []
-
-pub opens_none : (r : Record) → OneOf others (tag_of the_type r) → false ≡ opens r
-unfolding opens
-opens_none (Open start attributes k c n) key = absurd (miss others 0 tt key)
-opens_none (Set t q v) key = refl
-opens_none (Remove t q) key = refl
-opens_none (Increment t q) key = refl
-opens_none Add key = refl
-opens_none (Finish t) key = refl
-opens_none (Single t q) key = refl
-opens_none (Full t) key = refl
 
 -- ---- an opening
 
@@ -194,9 +170,9 @@ module _ (r : Record) (s : Code.State) (w nodes table answer : List ℕ) (b : Bo
   decides x e =
       ap (λ (y : Bool). cond y (called r σ nodes table answer) (leaving (done σ (Said R.NotOpen)) nodes table answer)) (sym e ∙ ap (λ (y : Bool). y || s.opened) is)
 
-  pub not_open : length w ≡ 87 → not (b || s.opened) ≡ true → Leaves (said_of s R.NotOpen) w nodes table answer (carried r σ nodes table answer)
-  not_open entire e = (entire, decides false (not-true (b || s.opened) e))
+  pub not_open : length w ≡ 87 → b || s.opened ≡ false → Leaves (said_of s R.NotOpen) w nodes table answer (carried r σ nodes table answer)
+  not_open entire e = (entire, decides false e)
 
-  pub is_open : not (b || s.opened) ≡ false → (d : Coded.Done) (w' left rows told : List ℕ) → Leaves d w' left rows told (called r σ nodes table answer)
+  pub is_open : b || s.opened ≡ true → (d : Coded.Done) (w' left rows told : List ℕ) → Leaves d w' left rows told (called r σ nodes table answer)
       → Leaves d w' left rows told (carried r σ nodes table answer)
-  is_open e d w' left rows told k = (k.0, k.1 ∙ decides true (not-false (b || s.opened) e))
+  is_open e d w' left rows told k = (k.0, k.1 ∙ decides true e)

@@ -1,2 +1,4 @@
 pub mod Step
 pub mod Calls
+pub mod Text
+pub mod Printed

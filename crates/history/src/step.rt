@@ -10,7 +10,7 @@ use questions::Single;
 use record::Refusal;
 
 // Whether a history is open, and its shape; its record lies in an array beside this.
-#[derive(Drop)]
+#[derive(Clone, Copy)]
 pub struct State {
     pub opened: bool,
     pub shape: Shape,
@@ -66,6 +66,7 @@ fn after_open(s: State, shape: Shape, what: Refusal) -> Done
     after(shape, what)
 }
 
+#[tactic(auto, unfolding(crate::specs::Step::opens))]
 fn opens(r: Record) -> bool
     ensures { result ≡ opens r }
 {
