@@ -11,7 +11,7 @@ ghost use Rattle.history.specs.Printed.{held, held_in, answered, printed};
 
 use feed::{Reading, Record};
 use std::io;
-use std::io::{BufWriter, Read, Write};
+use std::io::{Read, Write};
 use step::State;
 
 // Reads until buf is full or the input ends, and returns how many bytes it put at the start of buf.
@@ -92,14 +92,12 @@ fn main(rt: HostRuntime) -> io::Result<()> {
     let mut table = [0u8; 2048];
     let mut answer = [0u8; 2048];
     let n = read_full(&mut rt.stdin(), &mut bytes)?;
-    let mut out = BufWriter::new(rt.alloc(), rt.stdout())?;
     run(
-        &mut out,
+        &mut rt.stdout(),
         &bytes[..n],
         &mut h,
         &mut nodes,
         &mut table,
         &mut answer,
-    )?;
-    out.flush()
+    )
 }
