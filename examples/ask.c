@@ -1,4 +1,4 @@
-/* Asks a finished history from C. Built in the repository's root, after `rt staticlib page`:
+/* Asks a finished history from C. Built in the repository's root, after `tools/archive page`:
  *
  *   cc -std=c99 -I include examples/ask.c target/staticlib/libpage.a -o ask
  */

@@ -1,5 +1,5 @@
 /* The questions about a finished history, for a host written in C. Link target/staticlib/libpage.a (x86-64; made by
- * `rt staticlib page`). The functions keep nothing between calls, take no memory and write to nothing but `answer`; any
+ * `tools/archive page`). The functions keep nothing between calls, take no memory and write to nothing but `answer`; any
  * number of threads may ask about the same nodes at the same time.
  *
  * A finished history is nine numbers and its nodes:

@@ -1,4 +1,4 @@
-//! Links the proved library, target/staticlib/libpage.a of the repository; `rt staticlib page` makes it.
+//! Links the proved library, target/staticlib/libpage.a of the repository; `tools/archive page` makes it.
 
 use std::env::var;
 use std::path::Path;
@@ -14,7 +14,7 @@ fn main() {
         "the library is made for x86-64, not for {}: build with --target x86_64-unknown-linux-gnu",
         machine
     );
-    assert!(archive.exists(), "{} is missing: run `rt staticlib page` in the repository's root", archive.display());
+    assert!(archive.exists(), "{} is missing: run `tools/archive page` in the repository's root", archive.display());
     println!("cargo:rustc-link-search=native={}", folder.display());
     println!("cargo:rustc-link-lib=static=page");
 }

@@ -1,7 +1,7 @@
 //! Drives the built program `history` with feeds and compares what it prints with document 01: typed from the document for
 //! its listing and its examples, worked out by tests/reference for thousands of made-up histories.
 //!
-//!     feeds WORD...        the words that start the program, such as target/bin/history; run in the repository's root
+//!     feeds WORD...        the words that start the program, such as crates/history/out/history; run in the repository's root
 //!
 //! Starting the program is slow under an emulator, so each feed has many histories, one after the other.
 

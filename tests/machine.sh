@@ -58,4 +58,9 @@ aarch64)
 esac
 
 # A product is made when it is missing or a source is newer.
-stale() { [ ! -e "$1" ] || [ -n "$(find crates crates.txt -newer "$1" -print -quit)" ]; }
+stale() { [ ! -e "$1" ] || [ -n "$(find crates.txt crates/*/src crates/*/specs crates/*/proofs -newer "$1" -print -quit)" ]; }
+
+# The kit runs on x86-64 alone: to another machine its products are carried.
+kit_here() {
+  command -v rt >/dev/null || fail "$1 is missing or older than a source, and the command rt of the Rattle kit, which runs on x86-64, is not there to make it"
+}
