@@ -1,5 +1,5 @@
 # Sourced by tests/run and tests/bench/run, at the repository's top: how Rust and C are compiled to link the library, and how to run what links it.
-# Sets: machine; here, for what runs on the machine itself; linked and c, for what links the library; emulated, what starts that.
+# Sets: machine; here, for what runs on the machine itself; linked and c, for what links the library; emulated, what starts that and the program.
 
 fail() {
   echo "${asked:-tests}: $*" >&2
