@@ -4,9 +4,10 @@
 mod step; // step.rt: one record carried out
 mod print; // print.rt: what a record is answered, as text
 
-ghost use Rattle.std.specs.Prelude.{◌≡◌, ◌≤◌, ◌<◌, length, take, IfOk, OnOk};
+ghost use Rattle.std.specs.Prelude.{◌≡◌, ℕ, ◌≤◌, ◌<◌, length, take, IfOk, OnOk, OnErr};
 ghost use Rattle.std.specs.Io.KnownBytes.{Consumes, IsAtEnd, Appends};
-ghost use Rattle.history.specs.Step.{state_in, none, carried};
+ghost use Rattle.history.specs.declared.step.Done.{Done};
+ghost use Rattle.history.specs.Step.{Leaves, state_in, none, carried};
 ghost use Rattle.history.specs.Printed.{held, held_in, answered, printed};
 
 use feed::{Reading, Record};
@@ -19,6 +20,7 @@ fn read_full<R: Read>(input: &mut R, buf: &mut [u8]) -> io::Result<usize>
     ensures in_bounds { IfOk result (λ n. n ≤ length buf.new) }
     ensures bytes { IfOk result (λ n. Consumes (R.remaining input.old) (R.remaining input.new) (take n buf.new)) }
     ensures end { IfOk result (λ n. n < length buf.new → IsAtEnd (R.remaining input.new)) }
+    ensures failed { OnErr result ((n : ℕ) × (n ≤ length buf.new) × Consumes (R.remaining input.old) (R.remaining input.new) (take n buf.new)) }
 {
     let mut done = 0;
     while done < buf.len() {
@@ -46,6 +48,8 @@ fn turn<W: Write>(
         (answered i (carried r (state_in s h.old) nodes.old table.old answer.old))) }
     ensures left { IfOk result (λ t. held (state_in t h.new) nodes.new table.new answer.new
         ≡ held_in (carried r (state_in s h.old) nodes.old table.old answer.old)) }
+    ensures unprinted { OnErr result ((d : Done) × Leaves d h.new nodes.new table.new answer.new
+        (carried r (state_in s h.old) nodes.old table.old answer.old)) }
 {
     let d = step::carry_out(r, s, h, nodes, table, answer);
     print::done(out, i, d, h[record::ATTRIBUTES], answer)?;
