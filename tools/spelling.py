@@ -49,7 +49,7 @@ def defined():
     names = collections.defaultdict(set)
     for p in walk("crates", ".antt"):
         parts = p.split(os.sep)
-        if parts[2] == "proofs" and parts[-1] in ("Proof.antt", "Answers.antt", "Invariants.antt"):
+        if parts[2] == "proofs" and len(parts) > 4 and parts[-1] in ("Proof.antt", "Answers.antt", "Invariants.antt"):
             continue
         for l in open(p, encoding="utf-8"):
             if l.lstrip().startswith("--"):

@@ -39,14 +39,14 @@ use Rattle.demands.proofs.Mirrored.{ran, mirrored, allowed, fitting, leaves, bui
 
 -- ---- numbers
 
-history-start : (s n : ℕ) (cs : List M.Call) → (history s n cs).start ≡ s
+history_start : (s n : ℕ) (cs : List M.Call) → (history s n cs).start ≡ s
 unfolding history
-history-start s n [] = refl
-history-start s n (c ∷ cs) = step_start c (history s n cs) ∙ history-start s n cs
+history_start s n [] = refl
+history_start s n (c ∷ cs) = step_start c (history s n cs) ∙ history_start s n cs
 
-pub numbers-said : (s : Sequence) → NumbersSaid s
-numbers-said s = let m = mirrored s in record {
-  start = m.start ∙ history-start s.start s.attributes (T.taken (ran s));
+pub numbers_said : (s : Sequence) → NumbersSaid s
+numbers_said s = let m = mirrored s in record {
+  start = m.start ∙ history_start s.start s.attributes (T.taken (ran s));
   latest = m.latest ∙ ap (λ (l : M.History). l.latest) (leaves s);
   attributes = m.attributes ∙ ap (λ (l : M.History). l.attributes) (leaves s);
   finished = m.finished ∙ ap (λ (l : M.History). l.finished) (leaves s);
@@ -54,9 +54,9 @@ numbers-said s = let m = mirrored s in record {
 
 -- ---- a scan finds intervals of its quark
 
-only-passes : (p : Interval → Bool) (xs : List Interval) (x : Interval) (rest : List Interval) → only p xs ≡ x ∷ rest → p x ≡ true
-only-passes p [] x rest e = let z : ◌≡◌ {A = ℕ} 0 1 = cc in absurd (omega arith)
-only-passes p (y ∷ xs) x rest e = go (p y) refl (only-passes p xs x rest) e
+only_passes : (p : Interval → Bool) (xs : List Interval) (x : Interval) (rest : List Interval) → only p xs ≡ x ∷ rest → p x ≡ true
+only_passes p [] x rest e = let z : ◌≡◌ {A = ℕ} 0 1 = cc in absurd (omega arith)
+only_passes p (y ∷ xs) x rest e = go (p y) refl (only_passes p xs x rest) e
   where
     go : (b : Bool) → p y ≡ b → (only p xs ≡ x ∷ rest → p x ≡ true) → cond b (y ∷ only p xs) (only p xs) ≡ x ∷ rest → p x ≡ true
     go true f later g = ap p (sym (head-eq_of_cons-eq g)) ∙ f
@@ -68,7 +68,7 @@ scan_quark l q t x e = go (ongoing l q t) e
   where
     go : (b : Bool) → cond b (record { quark = q; state = (l.table q).state; start = (l.table q).start; end = ∞ } ∷ []) [] ++ only (covers q t) l.stored ≡ x ∷ [] → x.quark ≡ q
     go true f = ap (λ (z : Interval). z.quark) (sym (head-eq_of_cons-eq f))
-    go false f = eqb-true x.quark q (and_both (eqb x.quark q) _ (only-passes (covers q t) l.stored x [] f)).0
+    go false f = eqb-true x.quark q (and_both (eqb x.quark q) _ (only_passes (covers q t) l.stored x [] f)).0
 
 module _ (s : Sequence) where
   abbrev h : History
@@ -85,17 +85,17 @@ module _ (s : Sequence) where
     unfolding step
     single_step = ap (λ (b : Bool). (cond b (told (now s) t q) (now s, says R.NotOpen)).1) (known s).begun
 
-    one-answered : SingleAnswered (ran s) q t one
-    one-answered = single_answered (allowed s) (fitting s) (mirrored s) t (quark q)
+    one_answered : SingleAnswered (ran s) q t one
+    one_answered = single_answered (allowed s) (fitting s) (mirrored s) t (quark q)
 
-    asked-one : q < h.attributes → Between s t → refuse_single (left (ran s)) q t ≡ 0
-    asked-one lt b = let m = mirrored s in
+    asked_one : q < h.attributes → Between s t → refuse_single (left (ran s)) q t ≡ 0
+    asked_one lt b = let m = mirrored s in
         rw (lt-leb (left (ran s)).attributes q (omega (arith, m.attributes)), le-leb (left (ran s)).start t (omega (arith, m.start, b.0)), le-leb t (left (ran s)).latest (omega (arith, m.latest, b.1)))
 
-  pub single-tells : SingleTells s
-  single-tells q t lt b = rw (single_step q t) (
-      let z = asked-one q t lt b in
-      let a = one-answered q t in
+  pub single_tells : SingleTells s
+  single_tells q t lt b = rw (single_step q t) (
+      let z = asked_one q t lt b in
+      let a = one_answered q t in
       let v = value_said (ran s) (allowed s) q t z in
       let x = v.0 in
       let found = single_scans (ran s) (allowed s) q t z in
@@ -109,10 +109,10 @@ module _ (s : Sequence) where
         only = ap (λ (l : M.History). scan l q t) (sym (leaves s)) ∙ covered;
       })
 
-  pub single-scanned : SingleScans s
+  pub single_scanned : SingleScans s
   unfolding number_of
-  single-scanned q t ok =
-      let a = one-answered q t in
+  single_scanned q t ok =
+      let a = one_answered q t in
       let z : refuse_single (left (ran s)) q t ≡ 0 = sym a.number ∙ ap number_of (ap (λ (x : Answer). x.refusal) (sym (single_step q t)) ∙ ok) in
       rw (single_step q t) (record {
         entry = a.entry z ∙ ap (map entry_of) (single_scans (ran s) (allowed s) q t z ∙ ap (λ (l : M.History). scan l q t) (leaves s));
@@ -124,22 +124,22 @@ module _ (s : Sequence) where
   -- ---- full
 
   module _ (t : ℕ) where
-    pub full-step : step (full t) (now s) ≡ asks (now s) t
+    pub full_step : step (full t) (now s) ≡ asks (now s) t
     unfolding step
-    full-step = ap (λ (b : Bool). cond b (asks (now s) t) (now s, says R.NotOpen)) (known s).begun
+    full_step = ap (λ (b : Bool). cond b (asks (now s) t) (now s, says R.NotOpen)) (known s).begun
 
-    all-answered : h.attributes ≤ length (now s).answer / entry_size
+    all_answered : h.attributes ≤ length (now s).answer / entry_size
         → FullAnswered (ran s) t (full_of h t (now s).nodes (now s).table (length (now s).answer)) (now s).answer (full_written h t (now s).nodes (now s).table (now s).answer)
-    all-answered room = full_answered (allowed s) (fitting s) (mirrored s) t (now s).answer room
+    all_answered room = full_answered (allowed s) (fitting s) (mirrored s) t (now s).answer room
 
     pub asked_all : Between s t → refuse_full (left (ran s)) t ≡ 0
     asked_all b = let m = mirrored s in
         rw (le-leb (left (ran s)).start t (omega (arith, m.start, b.0)), le-leb t (left (ran s)).latest (omega (arith, m.latest, b.1)))
 
-  pub full-tells : FullTells s
-  full-tells t b room = rw (full-step t) (
+  pub full_tells : FullTells s
+  full_tells t b room = rw (full_step t) (
       let z = asked_all t b in
-      let a = all-answered t (omega arith) in
+      let a = all_answered t (omega arith) in
       let v = full_said (ran s) (allowed s) t z in
       record {
         accepted = zero_nothing _ (a.number ∙ z);
@@ -150,21 +150,21 @@ module _ (s : Sequence) where
       })
 
   -- an answer that is too short is refused
-  long-answer : (t : ℕ) → full_refusal h t (now s).nodes (now s).table (length (now s).answer) ≡ R.Nothing → h.attributes ≤ length (now s).answer / entry_size
+  long_answer : (t : ℕ) → full_refusal h t (now s).nodes (now s).table (length (now s).answer) ≡ R.Nothing → h.attributes ≤ length (now s).answer / entry_size
   unfolding full_refusal
-  long-answer t ok = go (ltb (length (now s).answer / entry_size) h.attributes) refl
+  long_answer t ok = go (ltb (length (now s).answer / entry_size) h.attributes) refl
     where
       go : (b : Bool) → ltb (length (now s).answer / entry_size) h.attributes ≡ b → h.attributes ≤ length (now s).answer / entry_size
       go false e = ltb-false (length (now s).answer / entry_size) h.attributes e
       go true e = let z : ◌≡◌ {A = ℕ} 0 1 = cc (simp ((mirrored s).whole, (mirrored s).long, e) at ok) in absurd (omega arith)
 
-  pub full-scanned : FullScans s
+  pub full_scanned : FullScans s
   unfolding number_of full_of
-  full-scanned t ok =
-      let refused : full_refusal h t (now s).nodes (now s).table (length (now s).answer) ≡ R.Nothing = ap (λ (x : State × Answer). x.1.refusal) (sym (full-step t)) ∙ ok in
-      let a = all-answered t (long-answer t refused) in
+  full_scanned t ok =
+      let refused : full_refusal h t (now s).nodes (now s).table (length (now s).answer) ≡ R.Nothing = ap (λ (x : State × Answer). x.1.refusal) (sym (full_step t)) ∙ ok in
+      let a = all_answered t (long_answer t refused) in
       let z : refuse_full (left (ran s)) t ≡ 0 = sym a.number ∙ ap number_of refused in
-      rw (full-step t) (record {
+      rw (full_step t) (record {
         entries = a.written z ∙ ap (λ (xs : List Interval). sets (now s).answer 0 (spread entry_bytes (map entry_of xs)))
             (full_scans (ran s) (allowed s) t z ∙ ap (λ (l : M.History). scans l t l.attributes) (leaves s));
         nodes = a.nodes z ∙ (full_enters (ran s) (allowed s) t ∙ ap (tally t) (builds s));

@@ -3,7 +3,7 @@ use Rattle.demands.specs.Demands.{Demand1, Demand2, Demand3}
 use Rattle.demands.proofs.Settled.{settled}
 use Rattle.demands.proofs.Kept.{refused_keeps, refused_unwritten}
 use Rattle.demands.proofs.Exactly.{list_exactly, exactly, feed_exactly, numbers_differ}
-use Rattle.demands.proofs.Answers.{numbers-said, single-tells, full-tells, single-scanned, full-scanned}
+use Rattle.demands.proofs.Answers.{numbers_said, single_tells, full_tells, single_scanned, full_scanned}
 use Rattle.demands.proofs.Exported.{exported_tells, exported_tells_all}
 use Rattle.demands.proofs.Closed.{rebuilt, closed_nodes}
 use Rattle.demands.proofs.Ran.{every_run, each_call}
@@ -21,13 +21,13 @@ demand_1 = record {
 
 pub demand_2 : Demand2
 demand_2 = record {
-  numbers = numbers-said;
-  single = single-tells;
-  full = full-tells;
+  numbers = numbers_said;
+  single = single_tells;
+  full = full_tells;
   exported = exported_tells;
   exported_all = exported_tells_all;
   every = every_run;
 }
 
 pub demand_3 : Demand3
-demand_3 = record { each = each_call; rebuilt = rebuilt; closed = closed_nodes; single = single-scanned; full = full-scanned }
+demand_3 = record { each = each_call; rebuilt = rebuilt; closed = closed_nodes; single = single_scanned; full = full_scanned }

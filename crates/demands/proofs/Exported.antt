@@ -31,7 +31,7 @@ use Rattle.demands.specs.Sequences.{Sequence, now, story, afresh}
 use Rattle.demands.specs.Demands.{numbers, ExportedTells, ExportedTellsAll}
 use Rattle.demands.proofs.Exactly.{single_said}
 use Rattle.demands.proofs.Mirrored.{ran, mirrored, allowed, fitting, leaves, builds}
-use Rattle.demands.proofs.Answers.{single_step, single-tells, asked_all}
+use Rattle.demands.proofs.Answers.{single_step, single_tells, asked_all}
 
 module _ (s : Sequence) where
   abbrev h : History
@@ -42,7 +42,7 @@ module _ (s : Sequence) where
   exported_tells q t b done lt bt long =
       let nodes = (now s).nodes in
       let table = (now s).table in
-      let told = single-tells s q t lt bt in
+      let told = single_tells s q t lt bt in
       let ok : one.single_refusal h t q nodes table ≡ R.Nothing =
       sym (single_said h t (quark q) nodes table) ∙ (ap (λ (x : Answer). x.refusal) (sym (single_step s q t)) ∙ told.accepted) in
       let same : P.single_refusal (numbers s) t q nodes (length b) ≡ R.Nothing = single_same h (mirrored s).whole done t q nodes table (length b) long ∙ ok in

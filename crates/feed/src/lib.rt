@@ -195,7 +195,7 @@ pub fn record_at(feed: &[u8], place: usize) -> Reading
 // ---- the reader
 
 // "The reader holds the feed's bytes and its place; a plain function on feed and place does the reading for it."
-#[derive(Drop)]
+#[derive(Clone, Copy)]
 pub struct Feed<'a> {
     pub bytes: &'a [u8],
     pub place: usize,

@@ -11,7 +11,7 @@ use Rattle.model.specs.Transient.{Call, History, history, stores}
 use Rattle.model.specs.Build.{Shape}
 use Rattle.model.specs.Nodes.{Node, preorder, nodes, blank, ∞, open_end, tree_of, standing, upto, seqs}
 use Rattle.model.specs.Invariant.{Shaped}
-use Rattle.model.proofs.Answers.{build-largest}
+use Rattle.model.proofs.Answers.{build_largest}
 use Rattle.model.proofs.ByPlace.{at_mem, place_at, at_place}
 use Rattle.model.proofs.Closed.{closed, build_closed, close_all_closed, close_all_split, sub_mem, closed_ends}
 use Rattle.model.proofs.EachNode.{close_all_has, close_all_from}
@@ -93,5 +93,5 @@ module _ (sh : Shape) (shaped : Shaped sh) where
           let t = tree_of sh l in
           let w = build_sound sh l.start l.stored shaped c.sane in
           let ended = closed_ends t.start t.largest t.branch w.branch m d in
-          inr (omega (arith, ended, build-largest sh l.start l.latest l.stored c.low c.capped))
+          inr (omega (arith, ended, build_largest sh l.start l.latest l.stored c.low c.capped))
       go (inr e) = inl (e ∙ ap (λ z. cond z l.latest ∞) f)

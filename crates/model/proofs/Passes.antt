@@ -12,7 +12,7 @@ use Rattle.model.specs.Build.{Subtrees, childless, also, many, next, Shape}
 use Rattle.model.specs.Nodes.{Node, entries, node, preorder, nodes, blank, open_end, tree_of, standing, intervals}
 use Rattle.model.specs.Invariant.{Shaped, Good, Sizes}
 use Rattle.model.specs.Rules.{Child, Sits, Known}
-use Rattle.model.proofs.Answers.{standing-good, stands-once}
+use Rattle.model.proofs.Answers.{standing_good, stands_once}
 use Rattle.model.proofs.ByPlace.{At, place_at, in_place, at_mem, preorder_at}
 use Rattle.model.proofs.Kept.{to_nodes, from_nodes, numbered}
 use Rattle.model.proofs.Legal.{Legal}
@@ -125,11 +125,11 @@ module _ (sh : Shape) (shaped : Shaped sh) where
   -- R1 to R6 hold of every node, so no question is answered 3
   pub passes : (s n : ℕ) (cs : List Call) → Legal s n cs → (i : ℕ) → i < length (nodes (standing sh (history s n cs)))
       → let ns = nodes (standing sh (history s n cs)) in ((get_or ns i blank).seq ≡ i) × Sits sh ns (get_or ns i blank)
-  passes s n cs k i h = let l = history s n cs in let g = standing-good sh s n cs shaped k in let m = get_or (nodes (standing sh l)) i blank in (
+  passes s n cs k i h = let l = history s n cs in let g = standing_good sh s n cs shaped k in let m = get_or (nodes (standing sh l)) i blank in (
     place_at (tree_of sh l).used (nodes (standing sh l)) i (numbered sh shaped s n cs k) h,
     sits sh (nodes (standing sh l)) g.0 l.start none (standing sh l) g.1 (sized s n cs k) (at_places s n cs k) m
         (from_nodes sh l m (at_mem (nodes (standing sh l)) i h)),
   )
 
   pub quarks : (s n : ℕ) (cs : List Call) → Legal s n cs → Known (history s n cs).attributes (intervals (preorder none (standing sh (history s n cs))))
-  quarks s n cs k = perm_known (history s n cs).attributes (stands-once sh s n cs shaped k) (known s n cs k)
+  quarks s n cs k = perm_known (history s n cs).attributes (stands_once sh s n cs shaped k) (known s n cs k)

@@ -11,7 +11,7 @@ use Rattle.model.specs.Transient.{history}
 use Rattle.model.specs.Nodes.{blank, nodes, open_end, standing}
 use Rattle.model.specs.Refusals.{refuse, accepted}
 use Rattle.model.specs.Theorems.{Run, Allowed, taken, left, tree, made, TreeSound, WithinLimits, StoredInOrder, StoredOnTop, NewRootAsked, Numbered, EachNodeOnce, ClosedKept, OpenOrEnded, StoredOnce, OneCovers, SingleScans, FullScans, SingleEnters, FullEnters, ValueSaid, FullSaid, WalkedByPlace, NodesSit, QuarksKnown, OneFound, Values64, ShapeFree}
-use Rattle.model.proofs.Answers.{stands-once, single-scan, full-scan, single_said, single-entered, full-entered, found-one}
+use Rattle.model.proofs.Answers.{stands_once, single_scan, full_scan, single_said, single_entered, full_entered, found_one}
 use Rattle.model.proofs.Bounded.{table_within, stored_within, perm_within}
 use Rattle.model.proofs.EachNode.{nodes_perm, perm_intervals}
 use Rattle.model.proofs.Keep.{build_sound}
@@ -77,7 +77,7 @@ module _ (r : Run) (allowed : Allowed r) where
   open_or_ended = ended_by r.shape allowed.shaped r.start r.attributes (taken r) legal
 
   pub stored_once : StoredOnce r
-  stored_once = Permᴰ.trans (perm_intervals each_node_once) (stands-once r.shape r.start r.attributes (taken r) allowed.shaped legal)
+  stored_once = Permᴰ.trans (perm_intervals each_node_once) (stands_once r.shape r.start r.attributes (taken r) allowed.shaped legal)
 
   pub one_covers : OneCovers r
   one_covers q t e =
@@ -86,16 +86,16 @@ module _ (r : Run) (allowed : Allowed r) where
   pub single_scans : SingleScans r
   single_scans q t e =
       let d = asked_single (left r) q t e in
-      single-scan r.shape r.start r.attributes (taken r) allowed.shaped legal q t d.0 d.1 d.2
+      single_scan r.shape r.start r.attributes (taken r) allowed.shaped legal q t d.0 d.1 d.2
 
   pub full_scans : FullScans r
-  full_scans t e = let d = asked_full (left r) t e in full-scan r.shape r.start r.attributes (taken r) allowed.shaped legal t d.0 d.1
+  full_scans t e = let d = asked_full (left r) t e in full_scan r.shape r.start r.attributes (taken r) allowed.shaped legal t d.0 d.1
 
   pub single_enters : SingleEnters r
-  single_enters = single-entered r.shape r.start r.attributes (taken r) allowed.shaped legal
+  single_enters = single_entered r.shape r.start r.attributes (taken r) allowed.shaped legal
 
   pub full_enters : FullEnters r
-  full_enters = full-entered r.shape r.start r.attributes (taken r) allowed.shaped legal
+  full_enters = full_entered r.shape r.start r.attributes (taken r) allowed.shaped legal
 
   pub value_said : ValueSaid r
   value_said q t e =
@@ -122,7 +122,7 @@ module _ (r : Run) (allowed : Allowed r) where
   pub one_found : OneFound r
   one_found q t e =
       let d = asked_single (left r) q t e in
-      found-one r.shape r.start r.attributes (taken r) allowed.shaped legal q t d.0 d.1 d.2
+      found_one r.shape r.start r.attributes (taken r) allowed.shaped legal q t d.0 d.1 d.2
 
   pub values_64 : Values64 r
   values_64 a = let s = stored_within r.shape r.room r.entries r.start r.attributes r.calls a in record {

@@ -9,7 +9,7 @@ use Rattle.model.specs.Build.{Head, Subtrees, childless, also, Shape}
 use Rattle.model.specs.Nodes.{Node, nodes, open_end, tree_of, standing}
 use Rattle.model.specs.Questions.{walk, chase}
 use Rattle.model.specs.Invariant.{Shaped, Good}
-use Rattle.model.proofs.Answers.{openEnd-late, standing-good}
+use Rattle.model.proofs.Answers.{open_end_late, standing_good}
 use Rattle.model.proofs.ByPlace.{At, close_all_root, chase_root}
 use Rattle.model.proofs.Keep.{build_sound}
 use Rattle.model.proofs.Legal.{Legal}
@@ -40,8 +40,8 @@ module _ (sh : Shape) (shaped : Shaped sh) where
       go : (r : Head) (k' : Subtrees) → standing sh (history s n cs) ≡ also childless r (open_end (history s n cs)) k' → (t : ℕ) → l.start ≤ t
           → t ≤ l.latest
           → chase (suc r.level) t ns r.seq ≡ walk t none (standing sh (history s n cs))
-      go r k' e t h i = let g = standing-good sh s n cs shaped k in
+      go r k' e t h i = let g = standing_good sh s n cs shaped k in
           let good = subst (λ z. Good g.0 l.start z) e g.1 in
           let at = subst (λ z. At ns none z) e (at_places sh shaped s n cs k) in
-          chase_root t g.0 l.start (open_end l) ns r k' good at h (omega (arith, openEnd-late l (storable s n cs k).high))
+          chase_root t g.0 l.start (open_end l) ns r k' good at h (omega (arith, open_end_late l (storable s n cs k).high))
           ∙ ap (walk t none) (sym e)

@@ -25,7 +25,7 @@ use Rattle.model.specs.Nodes.{∞, Node, blank, node, preorder, open_end, interv
 use Rattle.model.specs.Invariant.{Inside, Good}
 use Rattle.model.specs.Rules.{Child, Sits, Known}
 use Rattle.model.specs.Theorems.{Run, Allowed, taken, left, tree, stands, made, Calls64, All64}
-use Rattle.model.proofs.Answers.{standing-good}
+use Rattle.model.proofs.Answers.{standing_good}
 use Rattle.model.proofs.Bounded.{within_fits}
 use Rattle.model.proofs.ByPlace.{At, at_mem, length_upto, length_seqs}
 use Rattle.model.proofs.Kept.{from_nodes}
@@ -137,7 +137,7 @@ module _ {r : Run} {h : History} {nodes table : List ℕ} (allowed : Allowed r) 
 
   all_below : (m : Node) → Memᴰ m (made r) → Below 16 ∞ m
   all_below m d =
-      let g = standing-good r.shape r.start r.attributes (taken r) allowed.shaped legal in
+      let g = standing_good r.shape r.start r.attributes (taken r) allowed.shaped legal in
       let b = sound_numbers h μ.whole in
       let k : g.0 ≡ suc μ.root.level = root_bounds g.0 (left r).start μ.root (open_end (left r)) μ.below (subst (λ (z : Subtrees). Good g.0 (left r).start z) μ.rooted g.1) in
       let n : next (left r).start (stands r) ≡ suc (open_end (left r)) = ap (next (left r).start) μ.rooted in

@@ -26,7 +26,7 @@ use Rattle.model.specs.Nodes.{∞, Node, open_end, intervals}
 use Rattle.model.specs.Questions.{only, covers, ongoing, current, walk, chase}
 use Rattle.model.specs.Refusals.{refuse_full}
 use Rattle.model.specs.Theorems.{Run, Allowed, taken, left, stands, made, Calls64}
-use Rattle.model.proofs.Answers.{found-one}
+use Rattle.model.proofs.Answers.{found_one}
 use Rattle.model.proofs.Legal.{Legal, legal_accepted}
 use Rattle.model.proofs.Proved.{walked_by_place}
 use Rattle.model.proofs.Running.{running}
@@ -129,7 +129,7 @@ module _ {r : Run} {h : History} {nodes table : List ℕ} (allowed : Allowed r) 
     pub tells : (q : ℕ) → q < (left r).attributes → Told q
     unfolding full_entry alone told
     tells q lt =
-        let f = found-one r.shape r.start r.attributes (taken r) allowed.shaped legal q t lt from to in
+        let f = found_one r.shape r.start r.attributes (taken r) allowed.shaped legal q t lt from to in
         go (ongoing (left r) q t) refl f.0 f.1 f.1
       where
         go : (b : Bool) → ongoing (left r) q t ≡ b → (x : Interval) → current (left r) q t ++ only (covers q t) (intervals (walk t none (stands r))) ≡ x ∷ []

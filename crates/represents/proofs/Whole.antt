@@ -26,7 +26,7 @@ use Rattle.model.specs.Build as B
 use Rattle.model.specs.Build.{Open, Tree, build, insert}
 use Rattle.model.specs.Nodes.{tree_of}
 use Rattle.model.specs.Invariant.{Shaped}
-use Rattle.model.proofs.Answers.{build-largest}
+use Rattle.model.proofs.Answers.{build_largest}
 use Rattle.model.proofs.Bounded.{within_fits}
 use Rattle.model.proofs.Keep.{build_sound}
 use Rattle.model.proofs.Places.{build_counted}
@@ -104,7 +104,7 @@ module _ (s : Shape) (l : M.History) (h : History) (b table : List ℕ) (real : 
   pub largest_within : (l.start ≤ t.largest) × (t.largest ≤ l.latest)
   largest_within = (
     omega (arith, (build_sound (shape_of s) l.start l.stored shaped real.stored.sane).low, tree_start (shape_of s) l.start l.stored),
-    build-largest (shape_of s) l.start l.latest l.stored real.stored.low real.stored.capped,
+    build_largest (shape_of s) l.start l.latest l.stored real.stored.low real.stored.capped,
   )
 
   whole_until : Until s l h b table → l.finished ≡ false → sound h ≡ true

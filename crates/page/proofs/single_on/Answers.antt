@@ -4,17 +4,17 @@ use native.Mathlib.Omega.{arith}
 use lib.ListN.{length}
 use lib.Seq.{length-sets}
 use Rattle.page.proofs.Heads.{head_roomy, head_long}
-use Rattle.page.proofs.Answers.{one-head, one-walked, one_told}
+use Rattle.page.proofs.Answers.{one_head, one_walked, one_told}
 use Rattle.page.proofs.single_on.Goals as goal
 
 pub returns-then-a-ne0 : goal.returns-then-a-ne0
-returns-then-a-ne0 c = one-head _ _ _ _ _ _ _ c.head-r.ensures c.number-a.ensures c.if-a-ne0.true
+returns-then-a-ne0 c = one_head _ _ _ _ _ _ _ c.head-r.ensures c.number-a.ensures c.if-a-ne0.true
 
 pub walked-s-requires : goal.walked-s-requires
 walked-s-requires c = head_roomy _ _ _ _ _ _ _ _ c.head-r.ensures c.number-a.ensures c.if-a-ne0.false
 
 pub returns-then-b-ne0 : goal.returns-then-b-ne0
-returns-then-b-ne0 c = one-walked _ _ _ _ _ _ _ c.head-r.ensures c.number-a.ensures c.if-a-ne0.false _ c.walked-s.ensures _ _ refl c.number-b.ensures c.if-b-ne0.true
+returns-then-b-ne0 c = one_walked _ _ _ _ _ _ _ c.head-r.ensures c.number-a.ensures c.if-a-ne0.false _ c.walked-s.ensures _ _ refl c.number-b.ensures c.if-b-ne0.true
 
 pub put-requires : goal.put-requires
 put-requires c = let long = head_long _ c.args.nodes.now _ _ _ _ _ _ c.head-r.ensures c.number-a.ensures c.if-a-ne0.false in omega arith
