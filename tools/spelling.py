@@ -1,5 +1,5 @@
 #!/usr/bin/env python3
-"""Brings the repository's own definitions and lemmas to snake case: usage: spelling.py [--list], at the top of the repository.
+"""Brings the repository's own definitions and lemmas to snake case, once, after the kit's port.py: usage: spelling.py [--list], at the top of the repository.
 A name of specs/ or of a file of lemmas in proofs/ that is in camel case with a small first letter, or has a dash, is respelled wherever it stands in
 crates/*/specs, proofs, must-fail and in the clauses and ghost uses of src, and in README.md and docs/*.md between backquotes. Names of functions in src/, names that Rattle makes
 and names of single proof files stay as they are. Text between double quotes and in comments stays, but for what is between backquotes."""
@@ -35,8 +35,7 @@ def walk(top, *endings):
 
 
 def snake(name):
-    name = re.sub(r"(?<=[a-z0-9])([A-Z])(?=[a-z]|$|[-_0-9N])", lambda m: "_" + m[1].lower() if not m[1] + name[m.end() : m.end() + 1] in ("N",) else "_" + m[1].lower(), name)
-    return name.replace("-", "_")
+    return re.sub(r"(?<=[a-z0-9])([A-Z])(?=[a-z]|$|[-_0-9N])", lambda m: "_" + m[1].lower(), name).replace("-", "_")
 
 
 def old_form(name):

@@ -4,8 +4,6 @@ use mathlib.Core.Path.{◌≡◌, sym, ap, subst, ◌∙◌}
 use mathlib.Core.Bool.{Bool, true, false, cond}
 use mathlib.Core.List.{List}
 use lib.ListN.{get_or, length}
-use types.Run.{OneOf}
-use denote.Enum.Declared.{tag_of}
 use Rattle.layout.specs.declared.Entry.{Entry}
 use Rattle.layout.specs.declared.Shape.{Shape}
 use Rattle.record.specs.Record.{History, branch_of, record_of, Becomes}
@@ -16,7 +14,6 @@ use Rattle.record.specs.Levels.{intervals_at}
 use Rattle.record.specs.Sound.{last_time}
 use Rattle.record.specs.Firm.{Firm, Long}
 use Rattle.record.specs.Moves.{with_largest, stretched}
-use Rattle.record.specs.contracts.Refusal.{the_type}
 use Rattle.record.proofs.Kept.{firm_stretched}
 use Rattle.settle.specs.declared.Plan.{Plan}
 use Rattle.settle.specs.Settle.{lowest, taken, settle, plan_refusal}
@@ -24,7 +21,7 @@ use Rattle.build.specs.Moves.{held, Room, Turns, store}
 use Rattle.build.specs.Write.{climb, stretch, placed, written, inserted}
 use Rattle.build.specs.Carried.{Alike}
 use Rattle.build.proofs.Taken.{taken_room, taken_plan, taken_accepted}
-use Rattle.build.proofs.Trials.{others, refused, tried_firm, tried_alike, tried_long}
+use Rattle.build.proofs.Trials.{refused, tried_firm, tried_alike, tried_long}
 use Rattle.build.proofs.Steps.{inserted_history, inserted_length, room_kept}
 use Rattle.build.proofs.Turns.{joined, parted}
 
@@ -59,7 +56,7 @@ module _ (s : Shape) (w b : List ℕ) (x : Entry) where
     answer : q ≡ plan_refusal (record_of s w) (settle (record_of s w) x.start)
     answer = said ∙ ap (plan_refusal (record_of s w)) plan
 
-    pub insert_refused : length w ≡ 87 → OneOf others (tag_of the_type q)
+    pub insert_refused : length w ≡ 87 → (q ≡ Nothing → ⊥)
         → (q ≡ plan_refusal (record_of s w) (settle (record_of s w) x.start)) × Turns s w b w b (inserted x)
     insert_refused n k = (answer, parted s w b w b (inserted x) n (refused_same (record_of s w) b x (ap accepted (sym answer) ∙ refused q k)))
 

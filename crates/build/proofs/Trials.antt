@@ -2,17 +2,14 @@
 use Prim.Native.Nat.{ℕ, ◌+◌, ◌-◌, ◌≤◌, ◌<◌}
 use mathlib.Core.Path.{◌≡◌, refl, sym, ap, ◌∙◌}
 use mathlib.Core.Bool.{Bool, true, false, cond}
-use mathlib.Core.List.{List, [], ◌∷◌}
+use mathlib.Core.List.{List}
 use native.Mathlib.Omega.{arith}
 use lib.ListN.{get_or}
-use types.Run.{OneOf, miss}
-use denote.Enum.Declared.{tag_of}
 use Rattle.layout.specs.declared.Shape.{Shape}
 use Rattle.record.specs.Record.{History, record_of, Becomes}
 use Rattle.record.specs.declared.Refusal.{Refusal}
 use Rattle.record.specs.declared.Refusal.TheVariants.{Nothing, Numbers, Short, Damaged, Finished, Early, Outside, NoQuark, TableFull, Top, Deep, NoRoom, NoTag, WrongLength, Cut, NotOpen, LongFeed}
 use Rattle.record.specs.Refusals.{accepted}
-use Rattle.record.specs.contracts.Refusal.{the_type}
 use Rattle.record.proofs.Lies.{last_end_lies}
 use Rattle.record.specs.Levels.{intervals_at, children_at, last_end_at}
 use Rattle.record.specs.Moves.{with_largest, closed, raised, stored, stretched}
@@ -92,11 +89,8 @@ module _ (h : History) (p : Plan) (e : ℕ) (g s : History) (up : g ≡ climb_on
 -- ═══ The answer ═══
 
 -- as a `match` tells it: every answer but 0
-abbrev pub others : List ℕ
-others = 1 ∷ 2 ∷ 3 ∷ 4 ∷ 5 ∷ 6 ∷ 7 ∷ 8 ∷ 9 ∷ 10 ∷ 11 ∷ 12 ∷ 13 ∷ 14 ∷ 15 ∷ 16 ∷ []
-
-pub refused : (r : Refusal) → OneOf others (tag_of the_type r) → accepted r ≡ false
-refused Nothing k = absurd (miss others 0 tt k)
+pub refused : (r : Refusal) → (r ≡ Nothing → ⊥) → accepted r ≡ false
+refused Nothing k = absurd (k refl)
 refused Numbers k = refl
 refused Short k = refl
 refused Damaged k = refl
@@ -115,7 +109,7 @@ refused NotOpen k = refl
 refused LongFeed k = refl
 
 module _ (h : History) (s e : ℕ) (p : Plan) (r : Refusal) (settled : p ≡ settle h s) (is : r ≡ plan_refusal h p) where
-  pub tried_refused : OneOf others (tag_of the_type r) → (r ≡ (tried h s e).refusal) × (h ≡ (tried h s e).history)
+  pub tried_refused : (r ≡ Nothing → ⊥) → (r ≡ (tried h s e).refusal) × (h ≡ (tried h s e).history)
   unfolding tried
   tried_refused k = (simp (← settled, ← is, refused r k), simp (← settled, ← is, refused r k))
 

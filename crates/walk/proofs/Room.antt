@@ -36,6 +36,11 @@ table_in q n m h k = omega arith
 pub nodes_small : (v : View) (l : List ℕ) → Roomy v l → v.shape.n * node_size v.shape ≤ 4294967296
 nodes_small v l roomy = nodes_room v.shape.n (node_size v.shape) roomy.shaped.nodes roomy.shaped.size
 
+-- a node that lies in the first n of them lies in the buffer, and in its first 2^32 bytes
+pub node_lies : (v : View) (l : List ℕ) → Roomy v l → (at : ℕ) → at + node_size v.shape ≤ v.shape.n * node_size v.shape
+    → (at + node_size v.shape ≤ length l) × (at + node_size v.shape ≤ 4294967296)
+node_lies v l roomy at inside = (omega (arith, roomy.room), omega (arith, nodes_small v l roomy))
+
 -- a used place's node lies in the buffer, and in its first 2^32 bytes
 module _ (v : View) (l : List ℕ) (roomy : Roomy v l) (place : Seq) (h : place.0 < v.used) where
   pub place_room : place_of v place + node_size v.shape ≤ length l

@@ -28,6 +28,10 @@ pub record Reading (l : List ℕ) (v : View) (t : ℕ) (w : Walk) (level p : ℕ
   pub is : rule ≡ broken v w (level - 1) h
   pub good : x ≡ kept rule
 
+pub reading : {l : List ℕ} {v : View} {t : ℕ} {w : Walk} {level p : ℕ} {h : Header} {rule : Rule} {x : Bool}
+    → Walking l v t w level → 0 < level → p ≡ place_of v w.place → h ≡ read_header l p → rule ≡ broken v w (level - 1) h → x ≡ kept rule → Reading l v t w level p h rule x
+reading walking left at reads is good = record { walking = walking; left = left; at = at; reads = reads; is = is; good = good }
+
 module _ (l : List ℕ) (v : View) (t : ℕ) where
   pub walking_root : (w : Walk) → Roomy v l → w ≡ root_of v → Walking l v t w (v.level + 1)
   unfolding root_of walk_of

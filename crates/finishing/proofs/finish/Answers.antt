@@ -1,11 +1,10 @@
 -- `finishing::finish` meets its contract. Assumes nothing.
 use Rattle.build.proofs.Trials.{refused}
 use Rattle.finishing.proofs.Finishes.{finish_refused, finish_needs, close_needs, finished_needs, finish_done}
-use borrow.Enum.Refused.{opened}
 use Rattle.finishing.proofs.finish.Goals as goal
 
 pub returns-in_default : goal.returns-in_default
-returns-in_default c = let e = c.refusal-r.ensures in (e.1, finish_refused _ _ _ _ _ e.0 (refused c.refusal-r.result (opened c.in_default.in_default-own.keys2)))
+returns-in_default c = let e = c.refusal-r.ensures in (e.1, finish_refused _ _ _ _ _ e.0 (refused c.refusal-r.result c.in_default.not-Nothing))
 
 pub store_all-requires : goal.store_all-requires
 store_all-requires c = let e = c.refusal-r.ensures in

@@ -1,14 +1,12 @@
 -- `finishing::refusal` meets its contract: each way cites its law. Assumes nothing.
-use mathlib.Core.Path.{sym, ◌∙◌}
+use mathlib.Core.Path.{sym, ◌∙◌, ap}
 use Rattle.build.proofs.Trials.{refused}
 use Rattle.finishing.proofs.Finishes.{entries_inside, trial_needs, finish_unadmitted, finish_finished, finish_damaged, finish_outside, finish_early, finish_tried}
-use borrow.Enum.Refused.{opened}
-use mathlib.Core.Path.{ap}
 use mathlib.Core.Bool.{not}
 use Rattle.finishing.proofs.refusal.Goals as goal
 
 pub returns-in_default : goal.returns-in_default
-returns-in_default c = let e = c.admit-r.ensures in (finish_unadmitted _ _ _ _ _ e.0 (refused c.admit-r.result (opened c.in_default.in_default-own.keys2)), e.1)
+returns-in_default c = let e = c.admit-r.ensures in (finish_unadmitted _ _ _ _ _ e.0 (refused c.admit-r.result c.in_default.not-Nothing), e.1)
 
 pub returns-then-finished : goal.returns-then-finished
 returns-then-finished c = let e = c.admit-r.ensures in

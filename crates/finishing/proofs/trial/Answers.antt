@@ -1,10 +1,9 @@
 use Rattle.build.proofs.Trials.{refused}
 use Rattle.finishing.proofs.Finishes.{trial_stops, trial_turn, trial_firm, trial_end}
-use borrow.Enum.Refused.{opened}
 use Rattle.finishing.proofs.trial.Goals as goal
 
 pub returns-in_default : goal.returns-in_default
-returns-in_default c = trial_stops _ _ _ _ _ _ c.loop-q.invariant.2 c.loop-q-test.true _ c.read_ongoing-o.ensures c.tried-r.result c.tried-r.ensures.0 (refused c.tried-r.result (opened c.in_default.in_default-own.keys2))
+returns-in_default c = trial_stops _ _ _ _ _ _ c.loop-q.invariant.2 c.loop-q-test.true _ c.read_ongoing-o.ensures c.tried-r.result c.tried-r.ensures.0 (refused c.tried-r.result c.in_default.not-Nothing)
 
 pub loop-q-preserved : goal.loop-q-preserved
 loop-q-preserved c = let e = c.tried-r.ensures in (

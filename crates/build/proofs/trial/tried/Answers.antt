@@ -1,7 +1,6 @@
 -- `build::trial::tried` meets its contract. Assumes nothing.
 use native.Mathlib.Omega.{arith}
 use Rattle.build.proofs.Trials.{taken_stores, taken_tried, tried_refused, tried_can, tried_planned}
-use borrow.Enum.Refused.{opened}
 use Rattle.build.proofs.trial.tried.Goals as goal
 
 pub stored-requires : goal.stored-requires
@@ -15,7 +14,7 @@ returns-then-takes c = let t = c.args.shape in
     (k.0, c.stored.ensures.0, k.1)
 
 pub returns-in_default : goal.returns-in_default
-returns-in_default c = let k = tried_refused _ _ _ _ _ c.settle-p.ensures c.refusal-what.ensures (opened c.in_default.in_default-own.keys2) in
+returns-in_default c = let k = tried_refused _ _ _ _ _ c.settle-p.ensures c.refusal-what.ensures c.in_default.not-Nothing in
     (k.0, c.requires.0, k.1)
 
 pub carry_on-requires : goal.carry_on-requires

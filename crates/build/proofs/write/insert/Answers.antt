@@ -1,7 +1,6 @@
 -- `build::write::insert` meets its contract. Assumes nothing.
 use Rattle.build.proofs.Trials.{tried_can}
 use Rattle.build.proofs.Inserted.{taken_can, insert_taken, insert_refused, insert_stored}
-use borrow.Enum.Refused.{opened}
 use Rattle.build.proofs.write.insert.Goals as goal
 
 pub store-requires : goal.store-requires
@@ -14,7 +13,7 @@ returns-then-takes c = insert_taken c.args.shape c.args.h.now c.args.nodes.now c
     _ c.takes.ensures c.if-takes.true c.seek-level.ensures _ _ c.store.ensures
 
 pub returns-in_default : goal.returns-in_default
-returns-in_default c = insert_refused c.args.shape c.args.h.now c.args.nodes.now c.args.e _ _ c.settle-p.ensures c.refusal-what.ensures c.requires.0 (opened c.in_default.in_default-own.keys2)
+returns-in_default c = insert_refused c.args.shape c.args.h.now c.args.nodes.now c.args.e _ _ c.settle-p.ensures c.refusal-what.ensures c.requires.0 c.in_default.not-Nothing
 
 pub written-requires : goal.written-requires
 written-requires c = let p = c.requires in

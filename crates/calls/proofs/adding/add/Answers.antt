@@ -1,5 +1,4 @@
 -- `calls::adding::add` meets its contract. Assumes nothing.
-use borrow.Enum.Refused.{opened}
 use native.Mathlib.Omega.{arith}
 use Rattle.build.proofs.Trials.{refused}
 use Rattle.calls.proofs.Additions.{add_room, add_small, add_refused, added}
@@ -19,7 +18,7 @@ returns c = let a = c.refusal-r.ensures in
 
 pub returns-in_default : goal.returns-in_default
 returns-in_default c = let a = c.refusal-r.ensures in
-    (a.1, add_refused _ _ _ _ a.0 (refused c.refusal-r.result (opened c.in_default.in_default-own.keys2)))
+    (a.1, add_refused _ _ _ _ a.0 (refused c.refusal-r.result c.in_default.not-Nothing))
 
 pub overflow_cast-quark : goal.overflow_cast-quark
 overflow_cast-quark c = omega (arith, add_small _ _ _ _ c.refusal-r.ensures.0 c.in-Nothing.is)

@@ -2,12 +2,11 @@
 use mathlib.Core.Path.{sym, ◌∙◌}
 use Rattle.build.proofs.Trials.{refused}
 use Rattle.calls.proofs.Additions.{add_unadmitted, add_finished, add_full, add_fine}
-use borrow.Enum.Refused.{opened}
 use Rattle.calls.proofs.adding.refusal.Goals as goal
 
 pub returns-in_default : goal.returns-in_default
 returns-in_default c = let a = c.admit-r.ensures in
-    (add_unadmitted _ _ _ _ a.0 (refused c.admit-r.result (opened c.in_default.in_default-own.keys2)), a.1)
+    (add_unadmitted _ _ _ _ a.0 (refused c.admit-r.result c.in_default.not-Nothing), a.1)
 
 pub returns-then-finished : goal.returns-then-finished
 returns-then-finished c = let a = c.admit-r.ensures in

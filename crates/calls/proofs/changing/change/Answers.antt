@@ -2,14 +2,13 @@
 use Rattle.record.specs.Record.{record_of}
 use Rattle.build.proofs.Trials.{refused}
 use Rattle.calls.proofs.Changes.{asked_entry, due, change_unasked, change_untimely, change_carried}
-use borrow.Enum.Refused.{opened}
 use Rattle.calls.proofs.changing.change.Goals as goal
 
 pub returns-in_default : goal.returns-in_default
 returns-in_default c = let s = c.args in
     let h = record_of s.shape s.h.now in
     let u = c.unasked-r.ensures in
-    (u.1, change_unasked h _ _ _ _ _ _ u.0 (refused c.unasked-r.result (opened c.in_default.in_default-own.keys2)))
+    (u.1, change_unasked h _ _ _ _ _ _ u.0 (refused c.unasked-r.result c.in_default.not-Nothing))
 
 pub read_ongoing-o-requires : goal.read_ongoing-o-requires
 read_ongoing-o-requires c = let s = c.args in
@@ -20,7 +19,7 @@ pub returns-in_default-u : goal.returns-in_default-u
 returns-in_default-u c = let s = c.args in
     let h = record_of s.shape s.h.now in
     let u = c.unasked-r.ensures in
-    (u.1, change_untimely h _ _ _ _ _ _ u.0 c.in-Nothing.is _ c.read_ongoing-o.ensures _ c.untimely-u.ensures (refused c.untimely-u.result (opened c.in_default-u.in_default-u-own.keys2)))
+    (u.1, change_untimely h _ _ _ _ _ _ u.0 c.in-Nothing.is _ c.read_ongoing-o.ensures _ c.untimely-u.ensures (refused c.untimely-u.result c.in_default-u.not-Nothing))
 
 pub carry-requires : goal.carry-requires
 carry-requires c = let s = c.args in

@@ -2,7 +2,6 @@
 use Rattle.record.specs.Record.{record_of}
 use Rattle.build.proofs.Trials.{refused}
 use Rattle.calls.proofs.Changes.{entry_ends, store_refused, store_done}
-use borrow.Enum.Refused.{opened}
 use Rattle.calls.proofs.changing.store.Goals as goal
 
 pub insert-r-requires : goal.insert-r-requires
@@ -13,7 +12,7 @@ pub returns-in_default : goal.returns-in_default
 returns-in_default c = let s = c.args in
     let h = record_of s.shape s.h.now in
     let e = c.insert-r.ensures in
-    (e.1.0, store_refused h _ _ _ _ _ _ _ c.ongoing_entry-e.ensures _ _ _ (e.0, e.1.1, e.1.2) (refused c.insert-r.result (opened c.in_default.in_default-own.keys2)))
+    (e.1.0, store_refused h _ _ _ _ _ _ _ c.ongoing_entry-e.ensures _ _ _ (e.0, e.1.1, e.1.2) (refused c.insert-r.result c.in_default.not-Nothing))
 
 pub returns : goal.returns
 returns c = let s = c.args in

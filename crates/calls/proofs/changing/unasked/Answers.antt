@@ -3,14 +3,13 @@ use mathlib.Core.Path.{sym, ◌∙◌}
 use Rattle.record.specs.Record.{record_of}
 use Rattle.build.proofs.Trials.{refused}
 use Rattle.calls.proofs.Changes.{unasked_head, unasked_finished, unasked_quark, unasked_fine}
-use borrow.Enum.Refused.{opened}
 use Rattle.calls.proofs.changing.unasked.Goals as goal
 
 pub returns-in_default : goal.returns-in_default
 returns-in_default c = let s = c.args in
     let h = record_of s.shape s.h.now in
     let a = c.admit-r.ensures in
-    (unasked_head h _ _ _ _ a.0 (refused c.admit-r.result (opened c.in_default.in_default-own.keys2)), a.1)
+    (unasked_head h _ _ _ _ a.0 (refused c.admit-r.result c.in_default.not-Nothing), a.1)
 
 pub returns-then-finished : goal.returns-then-finished
 returns-then-finished c = let s = c.args in

@@ -2,11 +2,10 @@
 use mathlib.Core.Path.{refl}
 use Rattle.build.proofs.Trials.{refused}
 use Rattle.calls.proofs.Openings.{opens_standing, opens_table, open_refused, open_done}
-use borrow.Enum.Refused.{opened}
 use Rattle.calls.proofs.opening.open.Goals as goal
 
 pub returns-in_default : goal.returns-in_default
-returns-in_default c = (c.entire-all.ensures.1, open_refused _ _ _ _ _ _ _ c.refusal-r.ensures (refused c.refusal-r.result (opened c.in_default.in_default-own.keys2)))
+returns-in_default c = (c.entire-all.ensures.1, open_refused _ _ _ _ _ _ _ c.refusal-r.ensures (refused c.refusal-r.result c.in_default.not-Nothing))
 
 pub plant-requires : goal.plant-requires
 plant-requires c = opens_standing _ _ _ _ _ _ c.refusal-r.ensures c.in-Nothing.is _ _ refl (c.begin.ensures.1 _)

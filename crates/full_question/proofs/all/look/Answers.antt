@@ -3,7 +3,6 @@ use Prim.Native.Nat.{◌≤◌}
 use mathlib.Core.Path.{refl, sym, ap, ◌∙◌}
 use native.Mathlib.Omega.{arith}
 use lib.ListN.{length}
-use borrow.Author.Tests.{not-false}
 use Rattle.walk.specs.Walk.{all_sound}
 use Rattle.full_question.specs.Table.{once}
 use Rattle.walk.proofs.Broken.{false_is}
@@ -42,7 +41,7 @@ loop-i-preserved c =
     let lt = c.loop-i-test.true in
     let lies = c.lies.ensures in
     let told = covers_told _ _ _ _ _ lies (ap not c.if-not-lies.false) c.args.t _ (end_fits) refl in
-    let notes = note_told _ _ _ _ _ _ told (c.note.ensures.1 (not-false _ (ap not c.if-not-note.false))) in (
+    let notes = note_told _ _ _ _ _ _ told (c.note.ensures.1 c.if-not-note.false) in (
       omega arith,
       omega arith,
       ap length notes ∙ length_note _ _ _ _ ∙ inv.2,

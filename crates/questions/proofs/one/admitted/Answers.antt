@@ -1,9 +1,8 @@
 -- Each `return` cites the law of its way through `view_single`. Assumes nothing.
-use mathlib.Core.Path.{refl, sym, ◌∙◌}
+use mathlib.Core.Path.{refl, sym, ◌∙◌, ap}
 use Rattle.walk.specs.View.{view_of}
 use Rattle.walk.proofs.Room.{table_in}
 use Rattle.questions.proofs.Singles.{view_finished, view_unsound, view_table, view_walked}
-use mathlib.Core.Path.{ap}
 use mathlib.Core.Bool.{not}
 use Rattle.questions.proofs.one.admitted.Goals as goal
 

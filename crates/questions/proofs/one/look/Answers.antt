@@ -1,7 +1,7 @@
 use borrow.Author.Rules.{rules}
 use Prim.Native.Nat.{ℕ, ◌+◌, ◌-◌, ◌≤◌, ◌<◌}
 use mathlib.Core.Path.{◌≡◌, sym, ap, ◌∙◌}
-use mathlib.Core.Bool.{Bool}
+use mathlib.Core.Bool.{Bool, not}
 use native.Mathlib.Omega.{arith}
 use Rattle.layout.specs.declared.Entry.{Entry}
 use Rattle.walk.specs.Since.{entry_fits}
@@ -10,7 +10,6 @@ use Rattle.walk.proofs.Broken.{false_is}
 use Rattle.walk.proofs.Entries.{states_more, spans_told}
 use Rattle.walk.proofs.Walks.{sound_turn, sound_stop, sound_done}
 use Rattle.questions.proofs.Finds.{noted_yes, noted_no, noted_other, look_turn, look_done}
-use mathlib.Core.Bool.{not}
 use Rattle.questions.proofs.one.look.Goals as goal
 use Rattle.questions.proofs.one.look.Goals.{then-e-quark+then-spans, then-e-quark+else-spans, else-e-quark}
 
