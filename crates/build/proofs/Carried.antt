@@ -5,7 +5,7 @@ use mathlib.Core.Bool.{Bool, true, false, cond}
 use native.Mathlib.Omega.{arith}
 use lib.Dec.{ltb}
 use borrow.Author.Tests.{ltb-true, ltb-false}
-use Rattle.record.specs.Record.{History}
+use Rattle.record.specs.declared.History.{History}
 use Rattle.record.specs.Levels.{intervals_at, children_at, last_end_at}
 use Rattle.record.specs.Moves.{with_branch, with_largest, stored, stretched}
 use Rattle.record.specs.Sound.{last_time}

@@ -1,5 +1,5 @@
 -- The climb of a plan on the record: level after level is closed, or a root raised, and the record stays firm. Assumes nothing.
-use Prim.Native.Nat.{ℕ, zero, suc, ◌+◌, ◌-◌, ◌≤◌, ◌<◌}
+use Prim.Native.Nat.{ℕ, zero, suc, ◌+◌, ◌≤◌, ◌<◌}
 use mathlib.Core.Path.{◌≡◌, refl, ◌∙◌}
 use mathlib.Core.Bool.{Bool, true, false, cond}
 use mathlib.Core.List.{List, [], ◌∷◌}
@@ -7,7 +7,7 @@ use native.Mathlib.Omega.{arith}
 use lib.Dec.{ltb}
 use lib.ListN.{get_or, set}
 use borrow.Author.Tests.{ltb-true, ltb-false, lt-ltb, le-ltb}
-use Rattle.record.specs.Record.{History}
+use Rattle.record.specs.declared.History.{History}
 use Rattle.record.specs.Levels.{intervals_at, children_at}
 use Rattle.record.specs.Moves.{level_new, level_closed, with_branch, closed, raised}
 use Rattle.record.specs.Firm.{Firm, Long}
@@ -55,7 +55,7 @@ module _ (h : History) where
   unfolding closed raised with_branch
   rise_low le = risen (λ g. g.low ≡ h.low + 1) (λ lt. refl) (λ ge. omega arith)
 
-  rise_alike : Alike h (rise_on h)
+  pub rise_alike : Alike h (rise_on h)
   unfolding closed raised with_branch
   rise_alike =
       risen (λ g. Alike h g)
@@ -112,20 +112,20 @@ climb_low zero h c = omega arith
 climb_low (suc n) h c = omega (arith, climb_low n (rise_on h) (rise_climbing h n c), rise_low h c.firm.ordered)
 
 -- the climb as a loop has it, with l levels left
-module _ (h : History) (l : ℕ) where
-  pub climb_first : 0 < l → Climbing h l → Climbing h 1
-  climb_first lt c = let e : l ≡ suc (l - 1) = omega arith in climb_one h (l - 1) (rw e at c)
+module _ (h : History) (l m : ℕ) (e : l ≡ suc m) where
+  pub climb_first : Climbing h l → Climbing h 1
+  climb_first c = climb_one h m (rw e at c)
 
-  pub climb_next : (g : History) → 0 < l → Climbing h l → g ≡ rise_on h → Climbing g (l - 1)
-  climb_next g lt c is = let e : l ≡ suc (l - 1) = omega arith in rw is (rise_climbing h (l - 1) (rw e at c))
+  pub climb_next : (g : History) → Climbing h l → g ≡ rise_on h → Climbing g m
+  climb_next g c is = rw is (rise_climbing h m (rw e at c))
 
-  pub climb_goes_on : (g a : History) → 0 < l → climb_on l h ≡ a → g ≡ rise_on h → climb_on (l - 1) g ≡ a
+  pub climb_goes_on : (g a : History) → climb_on l h ≡ a → g ≡ rise_on h → climb_on m g ≡ a
   unfolding climb_on
-  climb_goes_on g a lt inv is = let e : l ≡ suc (l - 1) = omega arith in rw is (rw e at inv)
+  climb_goes_on g a inv is = rw is (rw e at inv)
 
-  pub climb_ends : (a : History) → l ≤ 0 → climb_on l h ≡ a → h ≡ a
-  unfolding climb_on
-  climb_ends a le inv = let e : l ≡ 0 = omega arith in rw e at inv
+pub climb_ends : (h : History) (l : ℕ) (a : History) → l ≡ 0 → climb_on l h ≡ a → h ≡ a
+unfolding climb_on
+climb_ends h l a e inv = rw e at inv
 
 -- the root stays open
 pub record Within (h g : History) : Type 0 where

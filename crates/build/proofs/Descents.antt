@@ -4,7 +4,7 @@ use mathlib.Core.Path.{◌≡◌, refl}
 use native.Mathlib.Numerals.{add-one}
 use native.Mathlib.Omega.{arith}
 use lib.ListN.{set}
-use Rattle.record.specs.Record.{History}
+use Rattle.record.specs.declared.History.{History}
 use Rattle.record.specs.Levels.{intervals_at, children_at}
 use Rattle.record.specs.Moves.{level_new, level_child, with_branch, made, stored}
 use Rattle.record.specs.Firm.{Firm, Long}
@@ -33,7 +33,7 @@ module _ (h : History) (a n : ℕ) (d : Descending h (suc n)) where
       }
 
 module _ (h : History) (a l : ℕ) where
-  make_alike : Alike h (made h a l)
+  pub make_alike : Alike h (made h a l)
   unfolding made with_branch
   make_alike = record { shape = refl; start = refl; latest = refl; attributes = refl; finished = refl }
 
@@ -64,21 +64,21 @@ module _ (a : ℕ) where
   descend_empty (suc n) h = descend_empty n (made h a (suc n))
 
 -- the descent as a loop has it, with l levels left
-module _ (h : History) (l : ℕ) where
-  pub down_needs : 0 < l → Descending h l → (l - 1 < 15) × (h.used < 4294967295) × (children_at h.branch (l - 1 + 1) < 65535)
-  down_needs lt d = let e : l ≡ suc (l - 1) = omega arith in let k = make_needs h 0 (l - 1) (rw e at d) in (k.0, k.2, k.4)
+module _ (h : History) (l m : ℕ) (e : l ≡ suc m) where
+  pub down_needs : Descending h l → (m < 15) × (h.used < 4294967295) × (children_at h.branch (m + 1) < 65535)
+  down_needs d = let k = make_needs h 0 m (rw e at d) in (k.0, k.2, k.4)
 
   module _ (a : ℕ) where
-    pub down_next : (g : History) → 0 < l → Descending h l → g ≡ made h a (l - 1) → Descending g (l - 1)
-    down_next g lt d is = let e : l ≡ suc (l - 1) = omega arith in rw is (make_descending h a (l - 1) (rw e at d))
+    pub down_next : (g : History) → Descending h l → g ≡ made h a m → Descending g m
+    down_next g d is = rw is (make_descending h a m (rw e at d))
 
-    pub down_goes_on : (g b : History) → 0 < l → descend_on a l h ≡ b → g ≡ made h a (l - 1) → descend_on a (l - 1) g ≡ b
+    pub down_goes_on : (g b : History) → descend_on a l h ≡ b → g ≡ made h a m → descend_on a m g ≡ b
     unfolding descend_on
-    down_goes_on g b lt inv is = let e : l ≡ suc (l - 1) = omega arith in rw is (rw e at inv)
+    down_goes_on g b inv is = rw is (rw e at inv)
 
-    pub down_ends : (b : History) → l ≤ 0 → descend_on a l h ≡ b → h ≡ b
-    unfolding descend_on
-    down_ends b le inv = let e : l ≡ 0 = omega arith in rw e at inv
+pub down_ends : (h : History) (l a : ℕ) (b : History) → l ≡ 0 → descend_on a l h ≡ b → h ≡ b
+unfolding descend_on
+down_ends h l a b e inv = rw e at inv
 
 module _ (h : History) (a n : ℕ) (g : Hanging h n) where
   -- and takes an interval

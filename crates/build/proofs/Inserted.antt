@@ -3,13 +3,11 @@ use Prim.Native.Nat.{ℕ, ◌-◌, ◌≤◌, ◌<◌}
 use mathlib.Core.Path.{◌≡◌, sym, ap, subst, ◌∙◌}
 use mathlib.Core.Bool.{Bool, true, false, cond}
 use mathlib.Core.List.{List}
-use lib.ListN.{get_or, length}
+use Rattle.std.specs.Prelude.{Err}
 use Rattle.layout.specs.declared.Entry.{Entry}
-use Rattle.layout.specs.declared.Shape.{Shape}
-use Rattle.record.specs.Record.{History, branch_of, record_of, Becomes}
+use Rattle.record.specs.declared.History.{History}
 use Rattle.record.specs.declared.Refusal.{Refusal}
-use Rattle.record.specs.declared.Refusal.TheVariants.{Nothing}
-use Rattle.record.specs.Refusals.{accepted}
+use Rattle.record.specs.Refusals.{Reply, Nothing, accepted}
 use Rattle.record.specs.Levels.{intervals_at}
 use Rattle.record.specs.Sound.{last_time}
 use Rattle.record.specs.Firm.{Firm, Long}
@@ -17,13 +15,12 @@ use Rattle.record.specs.Moves.{with_largest, stretched}
 use Rattle.record.proofs.Kept.{firm_stretched}
 use Rattle.settle.specs.declared.Plan.{Plan}
 use Rattle.settle.specs.Settle.{lowest, taken, settle, plan_refusal}
-use Rattle.build.specs.Moves.{held, Room, Turns, store}
+use Rattle.build.specs.Moves.{Held, held, Room, store}
 use Rattle.build.specs.Write.{climb, stretch, placed, written, inserted}
 use Rattle.build.specs.Carried.{Alike}
 use Rattle.build.proofs.Taken.{taken_room, taken_plan, taken_accepted}
-use Rattle.build.proofs.Trials.{refused, tried_firm, tried_alike, tried_long}
+use Rattle.build.proofs.Trials.{tried_firm, tried_alike, tried_long}
 use Rattle.build.proofs.Steps.{inserted_history, inserted_length, room_kept}
-use Rattle.build.proofs.Turns.{joined, parted}
 
 -- ═══ Each way ═══
 
@@ -51,44 +48,36 @@ stretched_can : (h : History) (e l : ℕ) → Firm h → e ≤ last_time → h.l
 unfolding stretched with_largest
 stretched_can h e l f le low top fits = (firm_stretched h f e le, low, top, fits)
 
-module _ (s : Shape) (w b : List ℕ) (x : Entry) where
-  module _ (p : Plan) (q : Refusal) (plan : p ≡ settle (record_of s w) x.start) (said : q ≡ plan_refusal (record_of s w) p) where
-    answer : q ≡ plan_refusal (record_of s w) (settle (record_of s w) x.start)
-    answer = said ∙ ap (plan_refusal (record_of s w)) plan
+module _ (h : History) (b : List ℕ) (x : Entry) where
+  module _ (p : Plan) (q : Reply) (plan : p ≡ settle h x.start) (said : q ≡ plan_refusal h p) where
+    answer : q ≡ plan_refusal h (settle h x.start)
+    answer = said ∙ ap (plan_refusal h) plan
 
-    pub insert_refused : length w ≡ 87 → (q ≡ Nothing → ⊥)
-        → (q ≡ plan_refusal (record_of s w) (settle (record_of s w) x.start)) × Turns s w b w b (inserted x)
-    insert_refused n k = (answer, parted s w b w b (inserted x) n (refused_same (record_of s w) b x (ap accepted (sym answer) ∙ refused q k)))
+    pub insert_refused : (y : Refusal) → q ≡ Err y → (q ≡ plan_refusal h (settle h x.start)) × (held h b ≡ inserted x (held h b))
+    insert_refused y k = (answer, sym (refused_same h b x (ap accepted (sym answer ∙ k))))
 
-    pub insert_stored : q ≡ Nothing → (r d : List ℕ) → Turns s w b r d (written x p)
-        → (Nothing ≡ plan_refusal (record_of s w) (settle (record_of s w) x.start)) × Turns s w b r d (inserted x)
-    insert_stored z r d t =
-        let h = record_of s w in
+    pub insert_stored : q ≡ Nothing → (τ : Held) → τ ≡ written x p (held h b) → (Nothing ≡ plan_refusal h (settle h x.start)) × (τ ≡ inserted x (held h b))
+    insert_stored z τ t =
         let e = accepted_written h b x (ap accepted (sym answer ∙ z)) ∙ ap (λ (y : Plan). written x y (held h b)) (sym plan) in
-        (sym z ∙ answer, parted s w b r d (inserted x) t.0 (e ∙ joined s w b r d (written x p) t))
+        (sym z ∙ answer, t ∙ sym e)
 
-  module _ (v : List ℕ) (on : Becomes w v (λ g. stretched g x.end)) (l : ℕ) (f : Firm (record_of s w)) (t : Bool) (told : t ≡ taken (record_of s w) x.start l) (told-yes : t ≡ true)
-      (at : (l ≡ lowest (get_or w 86 0 - get_or w 85 0) (branch_of w) x.start (get_or w 85 0)) × (get_or w 85 0 ≤ l) × (l ≤ get_or w 86 0)) where
-    yes : taken (record_of s w) x.start l ≡ true
+  module _ (g : History) (on : g ≡ stretched h x.end) (l : ℕ) (f : Firm h) (t : Bool) (told : t ≡ taken h x.start l) (told-yes : t ≡ true)
+      (at : (l ≡ lowest (h.top - h.low) h.branch x.start h.low) × (h.low ≤ l) × (l ≤ h.top)) where
+    yes : taken h x.start l ≡ true
     yes = sym told ∙ told-yes
 
-    pub taken_can : Room (record_of s w) b → x.end ≤ last_time
-        → (length v ≡ 87) × Firm (record_of s v) × Room (record_of s v) b × (get_or v 85 0 ≤ l) × (l ≤ get_or v 86 0) × (intervals_at (branch_of v) l < s.k)
+    pub taken_can : Room h b → x.end ≤ last_time → Firm g × Room g b × (g.low ≤ l) × (l ≤ g.top) × (intervals_at g.branch l < g.shape.k)
+    unfolding stretched with_largest
     taken_can room le =
-        let k =
-        subst (λ (g : History). Firm g × (g.low ≤ l) × (l ≤ g.top) × (intervals_at g.branch l < g.shape.k)) (sym (on.1 s))
-        (stretched_can (record_of s w) x.end l f le at.1 at.2 (taken_room (record_of s w) x.start l yes)) in
-        (on.0, k.0, room, k.1, k.2, k.3)
+        let k = subst (λ (y : History). Firm y × (y.low ≤ l) × (l ≤ y.top) × (intervals_at y.branch l < y.shape.k)) (sym on)
+        (stretched_can h x.end l f le at.1 at.2 (taken_room h x.start l yes)) in
+        (k.0, subst (λ (y : History). Room y b) (sym on) room, k.1, k.2, k.3)
 
-    pub insert_taken : (r d : List ℕ) → Turns s v b r d (store x l)
-        → (Nothing ≡ plan_refusal (record_of s w) (settle (record_of s w) x.start)) × Turns s w b r d (inserted x)
+    pub insert_taken : (τ : Held) → τ ≡ store x l (held g b) → (Nothing ≡ plan_refusal h (settle h x.start)) × (τ ≡ inserted x (held h b))
     unfolding stretch
-    insert_taken r d k =
-        let h = record_of s w in
-        let e : stretch x.end (held h b) ≡ held (record_of s v) b = λ j. record { history = sym (on.1 s) j; nodes = b } in (
-          sym (taken_fine h b x l f yes at.0 at.2),
-          parted s w b r d (inserted x) k.0 (taken_inserted h b x l f yes at.0 at.2 ∙ ap (store x l) e ∙ joined s v b r d (store x l) k),
-        )
+    insert_taken τ k =
+        let e : held g b ≡ stretch x.end (held h b) = λ j. record { history = on j; nodes = b } in
+        (sym (taken_fine h b x l f yes at.0 at.2), k ∙ ap (store x l) e ∙ sym (taken_inserted h b x l f yes at.0 at.2))
 
 -- ═══ What it keeps ═══
 

@@ -6,9 +6,9 @@ use mathlib.Core.Bool.{Bool, true, false, cond, not, ◌&&◌, true≢false}
 use lib.Dec.{ltb, leb}
 use borrow.Author.Tests.{ltb-true, ltb-false}
 use Rattle.layout.specs.declared.Shape.{Shape}
-use Rattle.record.specs.Record.{Branch, History}
-use Rattle.record.specs.declared.Refusal.TheVariants.{Nothing, Deep, NoRoom}
-use Rattle.record.specs.Refusals.{accepted}
+use Rattle.record.specs.declared.Branch.{Branch}
+use Rattle.record.specs.declared.History.{History}
+use Rattle.record.specs.Refusals.{Nothing, Deep, NoRoom, accepted}
 use Rattle.record.specs.Levels.{start_at, intervals_at, children_at, last_end_at}
 use Rattle.record.specs.Firm.{Firm}
 use Rattle.settle.specs.declared.Plan.{Plan}

@@ -5,9 +5,10 @@ use mathlib.Core.List.{List}
 use native.Mathlib.Omega.{arith}
 use lib.ListN.{length}
 use lib.Seq.{length-sets}
-use Rattle.layout.specs.declared.First.{First}
+use Rattle.std.specs.Prelude.{Option}
+use Rattle.layout.specs.declared.Child.{Child}
 use Rattle.layout.specs.Layout.{child_at, header_bytes, child_bytes, encode, new_node}
-use Rattle.record.specs.Record.{History}
+use Rattle.record.specs.declared.History.{History}
 use Rattle.record.specs.Levels.{place_at, intervals_at, children_at}
 use Rattle.record.specs.Firm.{Shaped, Firm}
 use Rattle.record.specs.Moves.{with_branch, raised, made, stored}
@@ -22,7 +23,7 @@ module _ (h : History) (l : ℕ) (b : List ℕ) where
   unfolding put_head
   length_head e s = length-sets b (stands_at h l) (header_bytes (head_of h l e s))
 
-  pub length_new : (first : First) → length (put_new h l first b) ≡ length b
+  pub length_new : (first : Option Child) → length (put_new h l first b) ≡ length b
   unfolding put_new
   length_new first = length-sets b (stands_at h l) (encode h.shape (new_node (head_of h l open_end 1) first))
 

@@ -6,11 +6,10 @@ use mathlib.Core.List.{List}
 use lib.Dec.{ltb}
 use lib.ListN.{length}
 use lib.Seq.{length-sets}
+use Rattle.std.specs.Prelude.{Some, None}
 use Rattle.layout.specs.declared.Entry.{Entry}
-use Rattle.layout.specs.declared.First.TheVariants.{Nothing, OneChild}
-use Rattle.record.specs.declared.Refusal.TheVariants.{Nothing as Fine}
-use Rattle.record.specs.Record.{History}
-use Rattle.record.specs.Refusals.{accepted}
+use Rattle.record.specs.Refusals.{Nothing as Fine, accepted}
+use Rattle.record.specs.declared.History.{History}
 use Rattle.record.specs.Levels.{seq_at, start_at, last_end_at}
 use Rattle.record.specs.Moves.{closed, raised, made, stored, stretched}
 use Rattle.settle.specs.declared.Plan.{Plan}
@@ -33,7 +32,7 @@ module _ (σ : Held) where
       let h = σ.history in
       let g = raised h in
       let b = put_head g h.top h.largest_end 2 σ.nodes in
-      length_new g (h.top + 1) b (OneChild (record { sequence = seq_at h.branch h.top; start = start_at h.branch h.top }))
+      length_new g (h.top + 1) b (Some (record { sequence = seq_at h.branch h.top; start = start_at h.branch h.top }))
       ∙ length_head g h.top σ.nodes h.largest_end 2
 
   pub make_history : (a l : ℕ) → (make a l σ).history ≡ made σ.history a l
@@ -45,7 +44,7 @@ module _ (σ : Held) where
   make_length a l =
       let h = σ.history in
       let g = made h a l in
-      length_new g l (with_child h g a (l + 1) σ.nodes) Nothing ∙ length_child h g a (l + 1) σ.nodes
+      length_new g l (with_child h g a (l + 1) σ.nodes) None ∙ length_child h g a (l + 1) σ.nodes
 
   pub store_history : (e : Entry) (l : ℕ) → (store e l σ).history ≡ stored σ.history l
   unfolding store
@@ -176,7 +175,7 @@ close_all_length h t (suc n) l b = close_all_length h t n (l + 1) (put_head h l 
 
 pub planted_length : (h : History) (b : List ℕ) → length (planted h b) ≡ length b
 unfolding planted
-planted_length h b = length_new h 0 b Nothing
+planted_length h b = length_new h 0 b None
 
 -- ---- room
 

@@ -5,8 +5,8 @@ use mathlib.Core.Bool.{Bool, true, false, cond, not, ◌&&◌, true≢false}
 use native.Mathlib.Nat.{le_trans}
 use lib.Dec.{ltb}
 use borrow.Author.Tests.{ltb-true, le-ltb}
-use Rattle.record.specs.Record.{History}
-use Rattle.record.specs.declared.Refusal.TheVariants.{Nothing}
+use Rattle.record.specs.declared.History.{History}
+use Rattle.record.specs.Refusals.{Nothing}
 use Rattle.record.specs.Levels.{intervals_at, last_end_at}
 use Rattle.settle.specs.declared.Verdict.TheVariants.{Here}
 use Rattle.settle.specs.Settle.{fits, room, ruled, plan, followed, ask_up, lowest, taken, settle, needed, plan_refusal}

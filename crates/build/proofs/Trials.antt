@@ -1,26 +1,22 @@
 -- What the functions of a trial need, and each way through them, over variables. Assumes nothing.
-use Prim.Native.Nat.{ℕ, ◌+◌, ◌-◌, ◌≤◌, ◌<◌}
+use Prim.Native.Nat.{ℕ, suc, ◌+◌, ◌-◌, ◌≤◌, ◌<◌}
 use mathlib.Core.Path.{◌≡◌, refl, sym, ap, ◌∙◌}
 use mathlib.Core.Bool.{Bool, true, false, cond}
-use mathlib.Core.List.{List}
 use native.Mathlib.Omega.{arith}
-use lib.ListN.{get_or}
-use Rattle.layout.specs.declared.Shape.{Shape}
-use Rattle.record.specs.Record.{History, record_of, Becomes}
+use Rattle.std.specs.Prelude.{Err}
+use Rattle.record.specs.declared.History.{History}
 use Rattle.record.specs.declared.Refusal.{Refusal}
-use Rattle.record.specs.declared.Refusal.TheVariants.{Nothing, Numbers, Short, Damaged, Finished, Early, Outside, NoQuark, TableFull, Top, Deep, NoRoom, NoTag, WrongLength, Cut, NotOpen, LongFeed}
-use Rattle.record.specs.Refusals.{accepted}
-use Rattle.record.proofs.Lies.{last_end_lies}
+use Rattle.record.specs.Refusals.{Reply, Nothing, accepted}
 use Rattle.record.specs.Levels.{intervals_at, children_at, last_end_at}
-use Rattle.record.specs.Moves.{with_largest, closed, raised, stored, stretched}
+use Rattle.record.specs.Moves.{with_largest, stored, stretched}
 use Rattle.record.specs.Sound.{last_time}
 use Rattle.record.specs.Firm.{Firm, Long}
 use Rattle.settle.specs.declared.Plan.{Plan}
 use Rattle.settle.specs.Settle.{plan, lowest, taken, settle, plan_refusal}
 use Rattle.build.specs.Feasible.{Feasible}
-use Rattle.build.specs.Trial.{Tried, rise_on, climb_on, descend_on, chain_on, placed_on, planned, tried}
+use Rattle.build.specs.Trial.{Tried, climb_on, descend_on, placed_on, planned, tried}
 use Rattle.build.specs.Carried.{Alike, Climbing, Descending, Hanging, Landed}
-use Rattle.build.proofs.Climbs.{rise_closes, rise_raises, raise_needs, climb_none}
+use Rattle.build.proofs.Climbs.{raise_needs, climb_none}
 use Rattle.build.proofs.Descents.{down_needs, chain_empty}
 use Rattle.build.proofs.Carried.{landed, planned_firm, planned_alike, planned_long}
 use Rattle.build.proofs.Taken.{taken_room, taken_plan, taken_accepted}
@@ -28,38 +24,22 @@ use Rattle.build.proofs.Plans.{feasible, then_nothing}
 
 -- ═══ One level up ═══
 
-module _ (w w' : List ℕ) where
-  pub rose_closed : get_or w 85 0 < get_or w 86 0 → Becomes w w' closed → Becomes w w' rise_on
-  rose_closed lt b = (b.0, λ s. b.1 s ∙ sym (rise_closes (record_of s w) lt))
-
-  pub rose_raised : get_or w 86 0 ≤ get_or w 85 0 → Becomes w w' raised → Becomes w w' rise_on
-  rose_raised le b = (b.0, λ s. b.1 s ∙ sym (rise_raises (record_of s w) le))
-
 pub raise_calls : (h : History) → Climbing h 1 → h.top ≤ h.low → (h.low ≤ h.top) × (h.top < 15) × (h.used < 4294967295)
 raise_calls h c le = let k = raise_needs h 0 c le in (c.firm.ordered, k.0, k.2)
 
 -- ═══ A chain ═══
 
-pub down_calls : (h : History) (l : ℕ) → 0 < l → Descending h l
-    → (l - 1 < h.low) × (h.low ≤ h.top) × (h.top < 16) × (h.used < 4294967295) × (children_at h.branch (l - 1 + 1) < 65535)
-down_calls h l lt d =
-    let k = down_needs h l lt d in (omega (arith, d.low), d.firm.ordered, omega (arith, d.firm.top), k.1, k.2)
+pub down_calls : (h : History) (l m : ℕ) → l ≡ suc m → Descending h l
+    → (m < h.low) × (h.low ≤ h.top) × (h.top < 16) × (h.used < 4294967295) × (children_at h.branch (m + 1) < 65535)
+down_calls h l m e d =
+    let k = down_needs h l m e d in (omega (arith, d.low), d.firm.ordered, omega (arith, d.firm.top), k.1, k.2)
 
 -- the lowest node of a chain is empty
 pub chain_stores : (h : History) (n : ℕ) → Hanging h n → (g : History) (a : ℕ) → g ≡ descend_on a n h → intervals_at g.branch 0 < 65535
 chain_stores h n k g a e = rw e (omega (arith, chain_empty h a n k))
 
-module _ (w : List ℕ) (n : ℕ) where
-  module _ (s : Shape) (k : Hanging (record_of s w) n) where
-    pub hangs_low : n < 16
-    hangs_low = omega (arith, k.down.low, k.down.firm.ordered, k.down.firm.top)
-
-    pub hangs_last : get_or w (64 + n) 0 ≤ last_time
-    hangs_last = omega (arith, k.last, last_end_lies w n hangs_low)
-
-  pub chain_stored : (w' w'' : List ℕ) → n < 16 → Becomes w w' (descend_on (get_or w (64 + n) 0 + 1) n) → Becomes w' w'' (λ g. stored g 0) → Becomes w w'' (chain_on n)
-  chain_stored w' w'' lt b c =
-      (c.0, λ s. c.1 s ∙ ap (λ (g : History). stored g 0) (b.1 s ∙ ap (λ (e : ℕ). descend_on (e + 1) n (record_of s w)) (sym (last_end_lies w n lt))))
+pub hangs_low : (h : History) (n : ℕ) → Hanging h n → n < 16
+hangs_low h n k = omega (arith, k.down.low, k.down.firm.ordered, k.down.firm.top)
 
 -- ═══ A plan ═══
 
@@ -88,30 +68,10 @@ module _ (h : History) (p : Plan) (e : ℕ) (g s : History) (up : g ≡ climb_on
 
 -- ═══ The answer ═══
 
--- as a `match` tells it: every answer but 0
-pub refused : (r : Refusal) → (r ≡ Nothing → ⊥) → accepted r ≡ false
-refused Nothing k = absurd (k refl)
-refused Numbers k = refl
-refused Short k = refl
-refused Damaged k = refl
-refused Finished k = refl
-refused Early k = refl
-refused Outside k = refl
-refused NoQuark k = refl
-refused TableFull k = refl
-refused Top k = refl
-refused Deep k = refl
-refused NoRoom k = refl
-refused NoTag k = refl
-refused WrongLength k = refl
-refused Cut k = refl
-refused NotOpen k = refl
-refused LongFeed k = refl
-
-module _ (h : History) (s e : ℕ) (p : Plan) (r : Refusal) (settled : p ≡ settle h s) (is : r ≡ plan_refusal h p) where
-  pub tried_refused : (r ≡ Nothing → ⊥) → (r ≡ (tried h s e).refusal) × (h ≡ (tried h s e).history)
+module _ (h : History) (s e : ℕ) (p : Plan) (r : Reply) (settled : p ≡ settle h s) (is : r ≡ plan_refusal h p) where
+  pub tried_refused : (y : Refusal) → r ≡ Err y → (r ≡ (tried h s e).refusal) × (h ≡ (tried h s e).history)
   unfolding tried
-  tried_refused k = (simp (← settled, ← is, refused r k), simp (← settled, ← is, refused r k))
+  tried_refused y k = (simp (← settled, ← is, k), simp (← settled, ← is, k))
 
   pub tried_can : Firm h → r ≡ Nothing → Feasible h p
   tried_can f x = let y : plan_refusal h (settle h s) ≡ Nothing = rw settled at (sym is ∙ x) in rw settled (feasible h s f y)

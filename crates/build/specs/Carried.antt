@@ -1,6 +1,6 @@
 -- What holds while a plan is carried out on the record: what is left of it can be done.
 use Rattle.std.specs.Prelude.{ℕ, ◌+◌, ◌≤◌, ◌<◌, true, false, ◌≡◌}
-use Rattle.record.specs.Record.{History}
+use Rattle.record.specs.declared.History.{History}
 use Rattle.record.specs.Levels.{intervals_at, children_at, last_end_at}
 use Rattle.record.specs.Sound.{last_time}
 use Rattle.record.specs.Firm.{Firm}

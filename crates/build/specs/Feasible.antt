@@ -1,6 +1,6 @@
 -- What a plan that is not refused gives to the one who carries it out: every write lies in the buffer, every count within its limit.
 use Rattle.std.specs.Prelude.{◌+◌, ◌≤◌, ◌<◌, true, false, ◌≡◌}
-use Rattle.record.specs.Record.{History}
+use Rattle.record.specs.declared.History.{History}
 use Rattle.record.specs.Levels.{intervals_at, children_at}
 use Rattle.settle.specs.declared.Plan.{Plan}
 use Rattle.settle.specs.Settle.{needed}

@@ -1,14 +1,13 @@
 -- The four ways in which record and node bytes change together: close, raise, make, store; and the part of store that is not the header.
-use Rattle.std.specs.Prelude.{ℕ, ◌+◌, ◌*◌, ◌≤◌, ◌<◌, cond, List, ◌≡◌, ltb, length}
+use Rattle.std.specs.Prelude.{ℕ, ◌+◌, ◌*◌, ◌≤◌, ◌<◌, cond, List, ltb, length, Option, Some, None}
 use Rattle.std.proofs.lemmas.List.Edits.{sets}
 use Rattle.layout.specs.declared.Seq.{Seq}
-use Rattle.layout.specs.declared.Shape.{Shape}
 use Rattle.layout.specs.declared.Header.{Header}
 use Rattle.layout.specs.declared.Entry.{Entry}
-use Rattle.layout.specs.declared.First.{First}
-use Rattle.layout.specs.declared.First.TheVariants.{Nothing, OneChild}
+use Rattle.layout.specs.declared.Child.{Child}
 use Rattle.layout.specs.Layout.{node_size, child_at, entry_at, header_bytes, child_bytes, entry_bytes, encode, new_node}
-use Rattle.record.specs.Record.{Branch, History, record_of}
+use Rattle.record.specs.declared.Branch.{Branch}
+use Rattle.record.specs.declared.History.{History}
 use Rattle.record.specs.Levels.{seq_at, place_at, start_at, intervals_at, children_at}
 use Rattle.record.specs.Firm.{Shaped}
 use Rattle.record.specs.Moves.{closed, raised, made, stored}
@@ -71,7 +70,7 @@ unfoldable pub put_head : History → ℕ → ℕ → ℕ → List ℕ → List 
 put_head h l end state b = sets b (stands_at h l) (header_bytes (head_of h l end state))
 
 -- "a new node too"
-unfoldable pub put_new : History → ℕ → First → List ℕ → List ℕ
+unfoldable pub put_new : History → ℕ → Option Child → List ℕ → List ℕ
 put_new h l first b = sets b (stands_at h l) (encode h.shape (new_node (head_of h l open_end 1) first))
 
 -- index of a level's next child entry
@@ -86,7 +85,7 @@ close σ = let h = σ.history in record { history = closed h; nodes = put_head h
 unfoldable pub raise : Held → Held
 raise σ = let h = σ.history in let g = raised h in record {
   history = g;
-  nodes = put_new g (h.top + 1) (OneChild (record { sequence = seq_at h.branch h.top; start = start_at h.branch h.top }))
+  nodes = put_new g (h.top + 1) (Some (record { sequence = seq_at h.branch h.top; start = start_at h.branch h.top }))
       (put_head g h.top h.largest_end 2 σ.nodes);
 }
 
@@ -96,7 +95,7 @@ with_child h g a l b = sets (put_head g l open_end 1 b) (stands_at h l + child_a
 
 -- a node of a chain, at level l and starting at a: its parent's, and the new node whole
 unfoldable pub make : ℕ → ℕ → Held → Held
-make a l σ = let h = σ.history in let g = made h a l in record { history = g; nodes = put_new g l Nothing (with_child h g a (l + 1) σ.nodes) }
+make a l σ = let h = σ.history in let g = made h a l in record { history = g; nodes = put_new g l None (with_child h g a (l + 1) σ.nodes) }
 
 -- level l takes an interval: its header, and the entry
 unfoldable pub store : Entry → ℕ → Held → Held
@@ -111,7 +110,3 @@ added e l σ = let h = σ.history in record {
   history = stored h l;
   nodes = sets σ.nodes (stands_at h l + entry_at h.shape (intervals_at h.branch l)) (entry_bytes e);
 }
-
--- what a move does to the record's array and the nodes
-abbrev pub Turns : Shape → List ℕ → List ℕ → List ℕ → List ℕ → (Held → Held) → Type 0
-Turns s w b w' b' move = (length w' ≡ 87) × (record_of s w' ≡ (move (held (record_of s w) b)).history) × (b' ≡ (move (held (record_of s w) b)).nodes)

@@ -1,9 +1,7 @@
 -- A plan carried out on the record alone: what finish tries before it writes.
 use Rattle.std.specs.Prelude.{ℕ, zero, suc, ◌+◌, cond, ltb}
-use Rattle.record.specs.Record.{History}
-use Rattle.record.specs.declared.Refusal.{Refusal}
-use Rattle.record.specs.declared.Refusal.TheVariants.{Nothing}
-use Rattle.record.specs.Refusals.{accepted}
+use Rattle.record.specs.declared.History.{History}
+use Rattle.record.specs.Refusals.{Reply, Nothing, accepted}
 use Rattle.record.specs.Levels.{last_end_at}
 use Rattle.record.specs.Moves.{closed, raised, made, stored, stretched}
 use Rattle.settle.specs.declared.Plan.{Plan}
@@ -33,7 +31,7 @@ planned p end h = placed_on p (stretched (climb_on p.closes h) end)
 
 -- What storing an interval comes to: refused, with the record as it came, or the record after it.
 pub record Tried : Type 0 where
-  pub refusal : Refusal
+  pub refusal : Reply
   pub history : History
 
 -- An interval from s to end tried on the record.

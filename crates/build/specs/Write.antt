@@ -1,8 +1,7 @@
 -- A plan carried out on record and nodes; opening; closing all.
-use Rattle.std.specs.Prelude.{ℕ, zero, suc, ◌+◌, cond, List, ltb}
+use Rattle.std.specs.Prelude.{ℕ, zero, suc, ◌+◌, cond, List, ltb, None}
 use Rattle.layout.specs.declared.Entry.{Entry}
-use Rattle.layout.specs.declared.First.TheVariants.{Nothing}
-use Rattle.record.specs.Record.{History}
+use Rattle.record.specs.declared.History.{History}
 use Rattle.record.specs.Refusals.{accepted}
 use Rattle.record.specs.Levels.{last_end_at}
 use Rattle.record.specs.Moves.{stretched}
@@ -49,4 +48,4 @@ close_all h t (suc n) l b = close_all h t n (l + 1) (put_head h l t 2 b)
 
 -- "Opening makes node 0: level 0, open, empty, starting at the history's start."
 unfoldable pub planted : History → List ℕ → List ℕ
-planted h b = put_new h 0 Nothing b
+planted h b = put_new h 0 None b

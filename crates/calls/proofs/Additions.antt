@@ -8,25 +8,24 @@ use lib.Dec.{leb}
 use lib.ListN.{length}
 use borrow.Author.Tests.{leb-false}
 use Rattle.layout.specs.Layout.{entry_size}
-use Rattle.record.specs.Record.{History}
-use Rattle.record.specs.declared.Refusal.{Refusal}
-use Rattle.record.specs.declared.Refusal.TheVariants.{Nothing, Damaged, Short, Finished, TableFull}
-use Rattle.record.specs.Refusals.{accepted, first_of}
+use Rattle.record.specs.declared.History.{History}
+use Rattle.record.specs.Refusals.{Reply, Nothing, Damaged, Short, Finished, TableFull, accepted, first_of}
 use Rattle.record.specs.Sound.{sound, long_enough, admitted}
 use Rattle.record.specs.Moves.{with_attribute}
 use Rattle.transient.specs.declared.Ongoing.{Ongoing}
 use Rattle.transient.specs.Transient.{table_at, begins, with_ongoing}
 use Rattle.calls.specs.Outcome.{answered, outcome}
 use Rattle.calls.specs.Add.{add_refusal, add_of}
-use Rattle.calls.proofs.Refused.{unadmitted, after_head, comes_refused, comes_done}
+use Rattle.record.proofs.Said.{unadmitted, after_head}
+use Rattle.calls.proofs.Refused.{comes_refused, comes_done}
 
 -- ---- the list
 
 -- 4 and 8
-abbrev rest : History → ℕ → Refusal
+abbrev rest : History → ℕ → Reply
 rest h table = first_of ((h.finished, Finished) ∷ (leb (table / entry_size) h.attributes || leb 4096 h.attributes, TableFull) ∷ [])
 
-module _ (h : History) (nodes table : ℕ) (r : Refusal) (said : r ≡ admitted h nodes table) where
+module _ (h : History) (nodes table : ℕ) (r : Reply) (said : r ≡ admitted h nodes table) where
   pub add_unadmitted : accepted r ≡ false → r ≡ add_refusal h nodes table
   unfolding add_refusal
   add_unadmitted e = unadmitted h nodes table (rest h table) r said e
@@ -54,7 +53,7 @@ neither false true z = absurd (false≢true (sym z))
 neither true y z = absurd (false≢true (sym z))
 
 -- accepted: the table has an entry more than there are attributes, and these are fewer than 4,096
-module _ (h : History) (nodes table : ℕ) (r : Refusal) (said : r ≡ add_refusal h nodes table) (e : r ≡ Nothing) where
+module _ (h : History) (nodes table : ℕ) (r : Reply) (said : r ≡ add_refusal h nodes table) (e : r ≡ Nothing) where
   not_full : leb (table / entry_size) h.attributes || leb 4096 h.attributes ≡ false
   unfolding add_refusal
   not_full = go (sound h) (long_enough h nodes table) h.finished (leb (table / entry_size) h.attributes || leb 4096 h.attributes) (sym e ∙ said)
@@ -72,7 +71,7 @@ module _ (h : History) (nodes table : ℕ) (r : Refusal) (said : r ≡ add_refus
   pub add_small : h.attributes < 4294967295
   add_small = omega (arith, leb-false 4096 h.attributes (neither (leb (table / entry_size) h.attributes) (leb 4096 h.attributes) not_full).1)
 
-module _ (h : History) (nodes table : List ℕ) (r : Refusal) (said : r ≡ add_refusal h (length nodes) (length table)) where
+module _ (h : History) (nodes table : List ℕ) (r : Reply) (said : r ≡ add_refusal h (length nodes) (length table)) where
   pub add_refused : accepted r ≡ false → outcome (answered r h) nodes table ≡ add_of h nodes table
   unfolding add_of
   add_refused e = comes_refused r _ said h nodes table _ e

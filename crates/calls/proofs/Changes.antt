@@ -9,13 +9,11 @@ use lib.IntN.{ℤ}
 use lib.ListN.{length}
 use borrow.Author.Tests.{le-leb, lt-leb, le-ltb, lt-ltb, leb-false, ltb-false, not-true, not-false}
 use Rattle.layout.specs.declared.Quark.{Quark}
-use Rattle.layout.specs.declared.Shape.{Shape}
 use Rattle.layout.specs.declared.Entry.{Entry}
 use Rattle.layout.specs.Layout.{entry_size}
-use Rattle.record.specs.Record.{History}
-use Rattle.record.specs.declared.Refusal.{Refusal}
-use Rattle.record.specs.declared.Refusal.TheVariants as R
-use Rattle.record.specs.Refusals.{accepted, first_of, first_else}
+use Rattle.record.specs.declared.History.{History}
+use Rattle.record.specs.Refusals.{Reply, accepted, first_of, first_else}
+use Rattle.record.specs.Refusals as R
 use Rattle.record.specs.Sound.{last_time, sound, long_enough, admitted}
 use Rattle.record.specs.Moves.{at_time}
 use Rattle.record.proofs.Facts.{admitted_facts, sound_firm}
@@ -33,12 +31,13 @@ use Rattle.build.specs.Write.{written, inserted}
 use Rattle.calls.specs.Outcome.{Comes, answered, outcome, or_refused}
 use Rattle.calls.specs.Change.{carried, change_refusal, change_of}
 use Rattle.calls.specs.Parts.{unasked, untimely, undone, carried_out, Due}
-use Rattle.calls.proofs.Refused.{refuses, passes, then_nothing, unadmitted, after_head, comes_refused, comes_done}
+use Rattle.record.proofs.Said.{refuses, passes, then_nothing, unadmitted, after_head}
+use Rattle.calls.proofs.Refused.{comes_refused, comes_done}
 
 -- ---- the parts in sequence are the list
 
 -- of any tests
-sequence : (a b c d e f g : Bool) (r : Refusal)
+sequence : (a b c d e f g : Bool) (r : Reply)
     → first_else ((not a, R.Damaged) ∷ (not b, R.Short) ∷ (c, R.Finished) ∷ (d, R.NoQuark) ∷ (not e, R.Damaged) ∷ (f, R.Outside) ∷ (g, R.Early) ∷ []) r
     ≡ (let u = first_of ((not a, R.Damaged) ∷ (not b, R.Short) ∷ (c, R.Finished) ∷ (d, R.NoQuark) ∷ []) in
     let v = first_of ((not e, R.Damaged) ∷ (f, R.Outside) ∷ (g, R.Early) ∷ []) in
@@ -80,10 +79,10 @@ module _ (h : History) (t : ℕ) (q : Quark) (what : Change) (nodes table : List
 -- ---- 3 record, 2, 4, 7
 
 -- 4 and 7
-abbrev rest : History → Quark → Refusal
+abbrev rest : History → Quark → Reply
 rest h q = first_of ((h.finished, R.Finished) ∷ (leb h.attributes q.0, R.NoQuark) ∷ [])
 
-module _ (h : History) (q : Quark) (nodes table : ℕ) (r : Refusal) (said : r ≡ admitted h nodes table) where
+module _ (h : History) (q : Quark) (nodes table : ℕ) (r : Reply) (said : r ≡ admitted h nodes table) where
   pub unasked_head : accepted r ≡ false → r ≡ unasked h q nodes table
   unfolding unasked
   unasked_head e = unadmitted h nodes table (rest h q) r said e
@@ -129,7 +128,7 @@ module _ (h : History) (o : Ongoing) (t : ℕ) (x : Bool) (is : x ≡ ongoing_so
 no : {A : Type 0} → ◌≡◌ {A = ℕ} 0 1 → A
 no e = absurd (omega arith)
 
-module _ (h : History) (q : Quark) (nodes table : ℕ) (u : Refusal) (said : u ≡ unasked h q nodes table) (e : u ≡ R.Nothing) where
+module _ (h : History) (q : Quark) (nodes table : ℕ) (u : Reply) (said : u ≡ unasked h q nodes table) (e : u ≡ R.Nothing) where
   asked : (admitted h nodes table ≡ R.Nothing) × (h.finished ≡ false) × (leb h.attributes q.0 ≡ false)
   unfolding unasked admitted
   asked = go (sound h) (long_enough h nodes table) h.finished (leb h.attributes q.0) (sym e ∙ said)
@@ -146,7 +145,7 @@ module _ (h : History) (q : Quark) (nodes table : ℕ) (u : Refusal) (said : u �
   pub asked_entry : table_at q.0 + entry_size ≤ table
   asked_entry = omega (arith, leb-false h.attributes q.0 asked.2, (admitted_facts h nodes table asked.0).2 asked.1)
 
-module _ (h : History) (o : Ongoing) (t : ℕ) (v : Refusal) (said : v ≡ untimely h o t) (e : v ≡ R.Nothing) where
+module _ (h : History) (o : Ongoing) (t : ℕ) (v : Reply) (said : v ≡ untimely h o t) (e : v ≡ R.Nothing) where
   timely : (ongoing_sound o h.start h.latest ≡ true) × (ltb last_time t ≡ false) × (ltb t h.latest ≡ false)
   unfolding untimely
   timely = go (ongoing_sound o h.start h.latest) (ltb last_time t) (ltb t h.latest) (sym e ∙ said)
@@ -157,7 +156,7 @@ module _ (h : History) (o : Ongoing) (t : ℕ) (v : Refusal) (said : v ≡ untim
       go true true c z = no (cc)
       go false b c z = no (cc)
 
-module _ (h : History) (t : ℕ) (q : Quark) (o : Ongoing) (nodes table : List ℕ) (u v : Refusal) where
+module _ (h : History) (t : ℕ) (q : Quark) (o : Ongoing) (nodes table : List ℕ) (u v : Reply) where
   pub due : u ≡ unasked h q (length nodes) (length table) → u ≡ R.Nothing → v ≡ untimely h o t → v ≡ R.Nothing → Due h t q o nodes table
   due a b d e =
       let is = asked h q (length nodes) (length table) u a b in
@@ -177,10 +176,10 @@ pub entry_ends : (t : ℕ) (q : Quark) (o : Ongoing) (x : Entry) → x ≡ inter
 unfolding interval
 entry_ends t q o x is le = rw is (omega arith)
 
-module _ (h : History) (t : ℕ) (q : Quark) (o next : Ongoing) (nodes table : List ℕ) (x : Entry) (is : x ≡ interval q o (t - 1)) (r : Refusal) (g : History) (left : List ℕ) where
-  -- what build::write::insert says of itself, but the array's length
+module _ (h : History) (t : ℕ) (q : Quark) (o next : Ongoing) (nodes table : List ℕ) (x : Entry) (is : x ≡ interval q o (t - 1)) (r : Reply) (g : History) (left : List ℕ) where
+  -- what build::write::insert says of itself
   abbrev Inserted : Type 0
-  Inserted = (r ≡ plan_refusal h (settle h x.start)) × (g ≡ (inserted x (held h nodes)).history) × (left ≡ (inserted x (held h nodes)).nodes)
+  Inserted = (r ≡ plan_refusal h (settle h x.start)) × (held g left ≡ inserted x (held h nodes))
 
   module _ (said : Inserted) where
     plan : r ≡ undone h o (D.Ended next)
@@ -191,8 +190,8 @@ module _ (h : History) (t : ℕ) (q : Quark) (o next : Ongoing) (nodes table : L
     unfolding inserted
     store_refused e =
         let kept : inserted x (held h nodes) ≡ held h nodes = ap (λ (b : Bool). cond b (written x (settle h x.start) (held h nodes)) (held h nodes)) (ap accepted (sym said.0) ∙ e) in
-        let hist : g ≡ h = said.1 ∙ ap (λ (σ : Held). σ.history) kept in
-        let byte : left ≡ nodes = said.2 ∙ ap (λ (σ : Held). σ.nodes) kept in
+        let hist : g ≡ h = ap (λ (σ : Held). σ.history) (said.1 ∙ kept) in
+        let byte : left ≡ nodes = ap (λ (σ : Held). σ.nodes) (said.1 ∙ kept) in
         let same : outcome (answered r g) left table ≡ outcome (answered r h) nodes table = λ i. outcome (answered r (hist i)) (byte i) table in
         same ∙ comes_refused r _ plan h nodes table _ e
 
@@ -201,8 +200,9 @@ module _ (h : History) (t : ℕ) (q : Quark) (o next : Ongoing) (nodes table : L
     unfolding carried
     store_done f rows e a b =
         let σ = inserted (interval q o (t - 1)) (held h nodes) in
-        let hist : g ≡ σ.history = said.1 ∙ ap (λ (y : Entry). (inserted y (held h nodes)).history) is in
-        let byte : left ≡ σ.nodes = said.2 ∙ ap (λ (y : Entry). (inserted y (held h nodes)).nodes) is in
+        let whole : held g left ≡ σ = said.1 ∙ ap (λ (y : Entry). inserted y (held h nodes)) is in
+        let hist : g ≡ σ.history = ap (λ (τ : Held). τ.history) whole in
+        let byte : left ≡ σ.nodes = ap (λ (τ : Held). τ.nodes) whole in
         let k : f ≡ at_time σ.history t = a ∙ ap (λ (y : History). at_time y t) hist in
         let done : outcome (answered R.Nothing f) left rows ≡ outcome (answered R.Nothing (at_time σ.history t)) σ.nodes (with_ongoing table q next) = λ i. outcome (answered R.Nothing (k i)) (byte i) (b i) in
         done ∙ comes_done r _ plan h nodes table _ e
@@ -232,44 +232,42 @@ module _ (h : History) (t : ℕ) (q : Quark) (o : Ongoing) (what : Change) (node
     pub carry_before : Due h t q o nodes table → o.start < t
     carry_before f = omega (arith, f.begun, (ended_only o t what next (sym is ∙ e)).0)
 
-    pub carry_ended : (r : Refusal) (s : Shape) (w left rows : List ℕ) → Comes r s w left rows (carried_out h t q o nodes table (D.Ended next)) → Comes r s w left rows (carried_out h t q o nodes table (decide o t what))
-    carry_ended r s w left rows k = (k.0, k.1 ∙ by (D.Ended next) e)
+    pub carry_ended : (r : Reply) (g : History) (left rows : List ℕ) → Comes r g left rows (carried_out h t q o nodes table (D.Ended next)) → Comes r g left rows (carried_out h t q o nodes table (decide o t what))
+    carry_ended r g left rows k = k ∙ by (D.Ended next) e
 
 -- ---- the call
 
-module _ (h : History) (t : ℕ) (q : Quark) (what : Change) (nodes table : List ℕ) (u : Refusal) (first : u ≡ unasked h q (length nodes) (length table)) where
-  abbrev last : Refusal
+module _ (h : History) (t : ℕ) (q : Quark) (what : Change) (nodes table : List ℕ) (u : Reply) (first : u ≡ unasked h q (length nodes) (length table)) where
+  abbrev last : Reply
   last = undone h (ongoing_at table q.0) (decide (ongoing_at table q.0) t what)
 
-  abbrev later : Refusal
+  abbrev later : Reply
   later = let v = untimely h (ongoing_at table q.0) t in cond (accepted v) last v
 
   parted : change_refusal h t q what nodes table ≡ cond (accepted u) later u
-  parted = change_parts h t q what nodes table ∙ ap (λ (x : Refusal). cond (accepted x) later x) (sym first)
+  parted = change_parts h t q what nodes table ∙ ap (λ (x : Reply). cond (accepted x) later x) (sym first)
 
   pub change_unasked : accepted u ≡ false → outcome (answered u h) nodes table ≡ change_of h t q what nodes table
   unfolding change_of
   change_unasked e = comes_refused u _ (sym (parted ∙ refuses u later e)) h nodes table _ e
 
-  module _ (ok : u ≡ R.Nothing) (o : Ongoing) (read : o ≡ ongoing_at table q.0) (v : Refusal) (second : v ≡ untimely h o t) where
+  module _ (ok : u ≡ R.Nothing) (o : Ongoing) (read : o ≡ ongoing_at table q.0) (v : Reply) (second : v ≡ untimely h o t) where
     timed : change_refusal h t q what nodes table ≡ cond (accepted v) last v
     timed =
         parted ∙ passes u later ok
-        ∙ ap (λ (x : Refusal). cond (accepted x) last x) (sym (second ∙ ap (λ (y : Ongoing). untimely h y t) read))
+        ∙ ap (λ (x : Reply). cond (accepted x) last x) (sym (second ∙ ap (λ (y : Ongoing). untimely h y t) read))
 
     pub change_untimely : accepted v ≡ false → outcome (answered v h) nodes table ≡ change_of h t q what nodes table
     unfolding change_of
     change_untimely e = comes_refused v _ (sym (timed ∙ refuses v last e)) h nodes table _ e
 
-    pub change_carried : v ≡ R.Nothing → (r : Refusal) (s : Shape) (w left rows : List ℕ) → Comes r s w left rows (carried_out h t q o nodes table (decide o t what)) → Comes r s w left rows (change_of h t q what nodes table)
+    pub change_carried : v ≡ R.Nothing → (r : Reply) (g : History) (left rows : List ℕ) → Comes r g left rows (carried_out h t q o nodes table (decide o t what)) → Comes r g left rows (change_of h t q what nodes table)
     unfolding change_of
-    change_carried e r s w left rows k = (
-      k.0,
-      k.1 ∙ ap (λ (y : Ongoing). carried_out h t q y nodes table (decide y t what)) read
-          ∙ ap (λ (x : Refusal). or_refused x h nodes table (carried h t q (ongoing_at table q.0) nodes table (decide (ongoing_at table q.0) t what))) (sym (timed ∙ passes v last e)),
-    )
+    change_carried e r g left rows k =
+        k ∙ ap (λ (y : Ongoing). carried_out h t q y nodes table (decide y t what)) read
+        ∙ ap (λ (x : Reply). or_refused x h nodes table (carried h t q (ongoing_at table q.0) nodes table (decide (ongoing_at table q.0) t what))) (sym (timed ∙ passes v last e))
 
 -- z is the value read back from its bits, as code has it
-pub set_back : (h : History) (t : ℕ) (q : Quark) (v z : ℤ) (nodes table : List ℕ) → z ≡ v → (r : Refusal) (s : Shape) (w left rows : List ℕ)
-    → Comes r s w left rows (change_of h t q (Set z) nodes table) → Comes r s w left rows (change_of h t q (Set v) nodes table)
-set_back h t q v z nodes table e r s w left rows k = (k.0, k.1 ∙ ap (λ (y : ℤ). change_of h t q (Set y) nodes table) e)
+pub set_back : (h : History) (t : ℕ) (q : Quark) (v z : ℤ) (nodes table : List ℕ) → z ≡ v → (r : Reply) (g : History) (left rows : List ℕ)
+    → Comes r g left rows (change_of h t q (Set z) nodes table) → Comes r g left rows (change_of h t q (Set v) nodes table)
+set_back h t q v z nodes table e r g left rows k = k ∙ ap (λ (y : ℤ). change_of h t q (Set y) nodes table) e

@@ -6,10 +6,9 @@ use mathlib.Core.List.{List}
 use lib.ListN.{length}
 use Rattle.layout.specs.declared.Shape.{Shape}
 use Rattle.layout.specs.declared.Quark.{Quark}
-use Rattle.record.specs.Record.{History, record_of}
-use Rattle.record.specs.declared.Refusal.{Refusal}
-use Rattle.record.specs.declared.Refusal.TheVariants as R
-use Rattle.record.specs.Refusals.{accepted}
+use Rattle.record.specs.declared.History.{History}
+use Rattle.record.specs.Refusals.{Reply, accepted}
+use Rattle.record.specs.Refusals as R
 use Rattle.record.specs.Moves.{with_attribute, finished_at}
 use Rattle.transient.specs.declared.Ongoing.{Ongoing}
 use Rattle.transient.specs.declared.Change.{Change}
@@ -26,19 +25,18 @@ use Rattle.calls.specs.Open.{blank, opened, table_opened, open_tests, open_refus
 use Rattle.calls.specs.Change.{carried, change_tests, change_refusal, change_of}
 use Rattle.calls.specs.Add.{add_tests, add_refusal, add_of}
 use Rattle.calls.specs.Finish.{trial, finish_tests, finish_refusal, stored_from, finish_of}
-use Rattle.calls.proofs.Refused.{on_false, accepted_nothing}
+use Rattle.record.proofs.Said.{accepted_nothing, on_false}
 use Rattle.calls.proofs.Exactly.{exactly, exactly_else}
-use Rattle.calls.proofs.Settled.{record_settles}
 
 -- ---- of any call
 
-module _ (r : Refusal) (h : History) (nodes table : List ℕ) (done : Outcome) where
+module _ (r : Reply) (h : History) (nodes table : List ℕ) (done : Outcome) where
   -- "A refusal returns its number .. the record as it came, and nothing written."
   pub refused_kept : accepted r ≡ false → or_refused r h nodes table done ≡ outcome (answered r h) nodes table
   refused_kept e = on_false (accepted r) done (outcome (answered r h) nodes table) e
 
   pub accepted_done : r ≡ R.Nothing → or_refused r h nodes table done ≡ done
-  accepted_done e = ap (λ (x : Refusal). or_refused x h nodes table done) e
+  accepted_done e = ap (λ (x : Reply). or_refused x h nodes table done) e
 
   says : done.answer.refusal ≡ R.Nothing → (or_refused r h nodes table done).answer.refusal ≡ r
   says e = go (accepted r) refl
@@ -61,15 +59,15 @@ module _ (r : Refusal) (h : History) (nodes table : List ℕ) (done : Outcome) w
       go true = e
       go false = refl
 
--- a promise leaves no freedom: what it allows, array and buffers, is equal
-module _ (o : Outcome) (s : Shape) (r r' : Refusal) (w w' nodes nodes' table table' : List ℕ) where
-  pub comes_once : Comes r s w nodes table o → Comes r' s w' nodes' table' o → (r ≡ r') × (w ≡ w') × (nodes ≡ nodes') × (table ≡ table')
+-- a promise leaves no freedom: what it allows, record and buffers, is equal
+module _ (o : Outcome) (r r' : Reply) (h h' : History) (nodes nodes' table table' : List ℕ) where
+  pub comes_once : Comes r h nodes table o → Comes r' h' nodes' table' o → (r ≡ r') × (h ≡ h') × (nodes ≡ nodes') × (table ≡ table')
   comes_once e f =
-      let g : outcome (answered r (record_of s w)) nodes table ≡ outcome (answered r' (record_of s w')) nodes' table' = e.1 ∙ sym f.1 in
-      (ap (λ (x : Outcome). x.answer.refusal) g, record_settles s w w' e.0 f.0 (ap (λ (x : Outcome). x.answer.history) g), ap (λ (x : Outcome). x.nodes) g, ap (λ (x : Outcome). x.table) g)
+      let g : outcome (answered r h) nodes table ≡ outcome (answered r' h') nodes' table' = e ∙ sym f in
+      (ap (λ (x : Outcome). x.answer.refusal) g, ap (λ (x : Outcome). x.answer.history) g, ap (λ (x : Outcome). x.nodes) g, ap (λ (x : Outcome). x.table) g)
 
 -- an equal number is given exactly then too
-by : (x y r : Refusal) (B : Type 0) → x ≡ y → Iff (y ≡ r) B → Iff (x ≡ r) B
+by : (x y r : Reply) (B : Type 0) → x ≡ y → Iff (y ≡ r) B → Iff (x ≡ r) B
 by x y r B p i = record { to = λ e. i.to (sym p ∙ e); from = λ b. p ∙ i.from b }
 
 -- ---- opening
@@ -100,7 +98,7 @@ module _ (start attributes : ℕ) (shape : Shape) (nodes table : List ℕ) where
       let r = open_refusal start attributes shape (length nodes) (length table) in
       (long_nodes r blank nodes table opens (planted_length (opened start attributes shape) nodes), long_table r blank nodes table opens (opened_length start attributes 0 table))
 
-  pub open_exactly : (r : Refusal) → Iff ((open_of start attributes shape nodes table).answer.refusal ≡ r) (Given (open_tests start attributes shape (length nodes) (length table)) R.Nothing r)
+  pub open_exactly : (r : Reply) → Iff ((open_of start attributes shape nodes table).answer.refusal ≡ r) (Given (open_tests start attributes shape (length nodes) (length table)) R.Nothing r)
   unfolding open_refusal
   open_exactly r = by _ (open_refusal start attributes shape (length nodes) (length table)) r _ open_says (exactly (open_tests start attributes shape (length nodes) (length table)) r)
 
@@ -147,7 +145,7 @@ module _ (h : History) (t : ℕ) (q : Quark) (what : Change) (nodes table : List
       let o = ongoing_at table q.0 in
       (long_nodes r h nodes table change (carried_nodes h t q o nodes table (decide o t what)), long_table r h nodes table change (carried_table h t q o nodes table (decide o t what)))
 
-  pub change_exactly : (r : Refusal) → Iff ((change_of h t q what nodes table).answer.refusal ≡ r) (Given (change_tests h t q what nodes table) R.Nothing r)
+  pub change_exactly : (r : Reply) → Iff ((change_of h t q what nodes table).answer.refusal ≡ r) (Given (change_tests h t q what nodes table) R.Nothing r)
   unfolding change_refusal
   change_exactly r = by _ (change_refusal h t q what nodes table) r _ change_says (exactly (change_tests h t q what nodes table) r)
 
@@ -171,7 +169,7 @@ module _ (h : History) (nodes table : List ℕ) where
       let r = add_refusal h (length nodes) (length table) in
       (long_nodes r h nodes table adds refl, long_table r h nodes table adds (length_with table (record { 0 = h.attributes }) (begins h.start)))
 
-  pub add_exactly : (r : Refusal) → Iff ((add_of h nodes table).answer.refusal ≡ r) (Given (add_tests h (length nodes) (length table)) R.Nothing r)
+  pub add_exactly : (r : Reply) → Iff ((add_of h nodes table).answer.refusal ≡ r) (Given (add_tests h (length nodes) (length table)) R.Nothing r)
   unfolding add_refusal
   add_exactly r = by _ (add_refusal h (length nodes) (length table)) r _ add_says (exactly (add_tests h (length nodes) (length table)) r)
 
@@ -208,6 +206,6 @@ module _ (h : History) (t : ℕ) (nodes table : List ℕ) where
       (long_nodes r h nodes table finishes (close_all_length g t (g.top + 1 - g.low) g.low σ.nodes ∙ stored_length h.attributes 0 table t (held h nodes)), long_table r h nodes table finishes refl)
 
   -- 10 and 11 are the trial's
-  pub finish_exactly : (r : Refusal) → Iff ((finish_of h t nodes table).answer.refusal ≡ r) (Given (finish_tests h t (length nodes) table) (trial h.attributes 0 table t h) r)
+  pub finish_exactly : (r : Reply) → Iff ((finish_of h t nodes table).answer.refusal ≡ r) (Given (finish_tests h t (length nodes) table) (trial h.attributes 0 table t h) r)
   unfolding finish_refusal
   finish_exactly r = by _ (finish_refusal h t (length nodes) table) r _ finish_says (exactly_else (finish_tests h t (length nodes) table) (trial h.attributes 0 table t h) r)

@@ -3,5 +3,4 @@ pub mod Openings
 pub mod Changes
 pub mod Additions
 pub mod Exactly
-pub mod Settled
 pub mod Kept

@@ -5,19 +5,16 @@ use mathlib.Core.Bool.{Bool, true, false, not, ◌&&◌, false≢true}
 use mathlib.Core.List.{List, [], ◌∷◌}
 use native.Mathlib.Omega.{arith}
 use lib.Dec.{leb, lit<}
-use lib.ListN.{length, replicate, set}
+use lib.ListN.{length}
 use borrow.Author.Tests.{leb-true, not-true, not-false}
 use Rattle.layout.specs.declared.Shape.{Shape}
 use Rattle.layout.specs.Layout.{node_size, entry_size}
-use Rattle.record.specs.Record.{History, sixteen, branch_of, record_of}
-use Rattle.record.specs.declared.Refusal.{Refusal}
-use Rattle.record.specs.declared.Refusal.TheVariants.{Nothing, Numbers, Short}
-use Rattle.record.specs.Refusals.{accepted, first_of}
+use Rattle.record.specs.declared.History.{History}
+use Rattle.record.specs.Refusals.{Reply, Nothing, Numbers, Short, accepted, first_of}
 use Rattle.record.specs.Sound.{last_time, shape_allowed, long_enough}
 use Rattle.record.proofs.Facts.{sound_shaped}
 use Rattle.transient.specs.declared.Ongoing.{Ongoing}
 use Rattle.transient.specs.Transient.{table_at, begins, with_ongoing}
-use Rattle.transient.proofs.Table.{length_with}
 use Rattle.build.specs.Moves.{Standing}
 use Rattle.build.specs.Write.{planted}
 use Rattle.calls.specs.Outcome.{answered, outcome}
@@ -31,7 +28,7 @@ both false b e = absurd (false≢true e)
 -- ---- the list: its two tests, each of what is wanted
 
 module _ (a b : Bool) where
-  abbrev listed : Refusal
+  abbrev listed : Reply
   listed = first_of ((not a, Numbers) ∷ (not b, Short) ∷ [])
 
   first : a ≡ false → Numbers ≡ listed
@@ -77,13 +74,6 @@ module _ (start attributes : ℕ) (shape : Shape) where
         unfolding open_refusal
         open_fine n = none allowed (long_enough (opened start attributes shape) nodes table) in_range (enough ∙ not-false y n)
 
--- ---- the record
-
--- the array that is stored is that of a history that begins
-pub begun : (start attributes : ℕ) (s : Shape) → record_of s (set (set (set (set (set (set (replicate 87 0) 16 start) 80 start) 81 start) 82 start) 83 attributes) 84 1) ≡ opened start attributes s
-unfolding branch_of sixteen opened
-begun start attributes s = refl
-
 -- ---- the table's first entries
 
 pub opens_begin : (start attributes : ℕ) (table : List ℕ) → table_opened start (attributes - 0) 0 table ≡ table_opened start attributes 0 table
@@ -101,15 +91,12 @@ module _ (start attributes q : ℕ) (table all : List ℕ) (so_far : table_opene
   unfolding table_opened
   opens_end le = let z : attributes - q ≡ 0 = omega arith in simp z at so_far
 
-pub opens_long : (q n : ℕ) (table next : List ℕ) (o : Ongoing) → next ≡ with_ongoing table (record { 0 = q }) o → length table ≡ n → length next ≡ n
-opens_long q n table next o e f = rw e (length_with table (record { 0 = q }) o ∙ f)
-
 pub opens_room : (q attributes m n : ℕ) → q < attributes → attributes * entry_size ≤ n → m ≡ n → table_at q + entry_size ≤ m
 opens_room q attributes m n lt le e = omega arith
 
 -- ---- the call
 
-module _ (start attributes : ℕ) (shape : Shape) (nodes table : ℕ) (r : Refusal) (said : r ≡ open_refusal start attributes shape nodes table) (e : r ≡ Nothing) where
+module _ (start attributes : ℕ) (shape : Shape) (nodes table : ℕ) (r : Reply) (said : r ≡ open_refusal start attributes shape nodes table) (e : r ≡ Nothing) where
   opens : (allowed start attributes shape ≡ true) × (long_enough (opened start attributes shape) nodes table ≡ true)
   unfolding open_refusal
   opens = go (allowed start attributes shape) (long_enough (opened start attributes shape) nodes table) (sym e ∙ said)
@@ -150,7 +137,7 @@ module _ (start attributes : ℕ) (shape : Shape) (nodes table : ℕ) (r : Refus
   pub opens_table : attributes * entry_size ≤ table
   opens_table = omega (arith, long.1)
 
-module _ (start attributes : ℕ) (shape : Shape) (came : History) (nodes table : List ℕ) (r : Refusal) (said : r ≡ open_refusal start attributes shape (length nodes) (length table)) where
+module _ (start attributes : ℕ) (shape : Shape) (came : History) (nodes table : List ℕ) (r : Reply) (said : r ≡ open_refusal start attributes shape (length nodes) (length table)) where
   pub open_refused : accepted r ≡ false → outcome (answered r came) nodes table ≡ open_on came start attributes shape nodes table
   unfolding open_on
   open_refused e = comes_refused r _ said came nodes table _ e

@@ -1,10 +1,9 @@
 -- Set, remove and increment. Document 01: "change 3 record, 2, 4, 7, 3 entry, 6, 5, 9, 10, 11".
 use Rattle.std.specs.Prelude.{ℕ, ◌-◌, Bool, true, false, not, ◌&&◌, List, [], ◌∷◌, leb, ltb, length}
 use Rattle.layout.specs.declared.Quark.{Quark}
-use Rattle.record.specs.Record.{History}
-use Rattle.record.specs.declared.Refusal.{Refusal}
-use Rattle.record.specs.declared.Refusal.TheVariants as R
-use Rattle.record.specs.Refusals.{first_of}
+use Rattle.record.specs.declared.History.{History}
+use Rattle.record.specs.Refusals.{Reply, first_of}
+use Rattle.record.specs.Refusals as R
 use Rattle.record.specs.Sound.{last_time, sound, long_enough}
 use Rattle.record.specs.Moves.{at_time}
 use Rattle.transient.specs.declared.Change.{Change}
@@ -51,7 +50,7 @@ module _ (h : History) (t : ℕ) (q : Quark) (what : Change) (nodes table : List
   abbrev pub decision : Decision
   decision = decide ongoing t what
 
-  abbrev pub change_tests : List (Bool × Refusal)
+  abbrev pub change_tests : List (Bool × Reply)
   change_tests =
       (not (sound h), R.Damaged)
       ∷ (not (long_enough h (length nodes) (length table)), R.Short)
@@ -65,7 +64,7 @@ module _ (h : History) (t : ℕ) (q : Quark) (what : Change) (nodes table : List
       ∷ (stores decision && no_room h (settle h ongoing.start), R.NoRoom)
       ∷ []
 
-  unfoldable pub change_refusal : Refusal
+  unfoldable pub change_refusal : Reply
   change_refusal = first_of change_tests
 
   unfoldable pub change_of : Outcome

@@ -1,10 +1,8 @@
 -- Opening. Document 01: "opening 1, 2".
 use Rattle.std.specs.Prelude.{ℕ, zero, suc, ◌+◌, Bool, false, not, ◌&&◌, List, [], ◌∷◌, leb, length, replicate, set}
 use Rattle.layout.specs.declared.Shape.{Shape}
-use Rattle.record.specs.Record.{History}
-use Rattle.record.specs.declared.Refusal.{Refusal}
-use Rattle.record.specs.declared.Refusal.TheVariants.{Nothing, Numbers, Short}
-use Rattle.record.specs.Refusals.{first_of}
+use Rattle.record.specs.declared.History.{History}
+use Rattle.record.specs.Refusals.{Reply, Nothing, Numbers, Short, first_of}
 use Rattle.record.specs.Sound.{last_time, shape_allowed, long_enough}
 use Rattle.transient.specs.Transient.{begins, with_ongoing}
 use Rattle.build.specs.Write.{planted}
@@ -22,7 +20,7 @@ blank = record {
   low = 0;
   top = 0;
   finished = false;
-  branch = record { places = replicate 16 (record { 0 = 0 }); starts = replicate 16 0; intervals = replicate 16 0; children = replicate 16 0; last_ends = replicate 16 0 };
+  branch = record { places = replicate 16 0; starts = replicate 16 0; intervals = replicate 16 0; children = replicate 16 0; last_ends = replicate 16 0 };
 }
 
 -- "Opening makes node 0: level 0, open, empty, starting at the history's start." "The latest time is the start at first"; "S is .. (the start, at first)".
@@ -37,7 +35,7 @@ opened start attributes shape = record {
   low = 0;
   top = 0;
   finished = false;
-  branch = record { places = replicate 16 (record { 0 = 0 }); starts = set (replicate 16 0) 0 start; intervals = replicate 16 0; children = replicate 16 0; last_ends = replicate 16 0 };
+  branch = record { places = replicate 16 0; starts = set (replicate 16 0) 0 start; intervals = replicate 16 0; children = replicate 16 0; last_ends = replicate 16 0 };
 }
 
 -- "At opening .. it is null from the history's start": the entries of n attributes from q on
@@ -46,13 +44,13 @@ table_opened start zero q table = table
 table_opened start (suc n) q table = table_opened start n (q + 1) (with_ongoing table (record { 0 = q }) (begins start))
 
 -- "1 opening: a number of the list above, its start included, outside its range"; "2 a lent buffer too short"
-abbrev pub open_tests : ℕ → ℕ → Shape → ℕ → ℕ → List (Bool × Refusal)
+abbrev pub open_tests : ℕ → ℕ → Shape → ℕ → ℕ → List (Bool × Reply)
 open_tests start attributes shape nodes table =
     (not (shape_allowed shape && leb start last_time && leb attributes 4096), Numbers)
     ∷ (not (long_enough (opened start attributes shape) nodes table), Short)
     ∷ []
 
-unfoldable pub open_refusal : ℕ → ℕ → Shape → ℕ → ℕ → Refusal
+unfoldable pub open_refusal : ℕ → ℕ → Shape → ℕ → ℕ → Reply
 open_refusal start attributes shape nodes table = first_of (open_tests start attributes shape nodes table)
 
 -- beside a record that came

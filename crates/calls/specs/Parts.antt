@@ -3,10 +3,9 @@
 use Rattle.std.specs.Prelude.{ℕ, ◌+◌, ◌≤◌, not, ◌&&◌, List, [], ◌∷◌, leb, ltb, length}
 use Rattle.layout.specs.declared.Quark.{Quark}
 use Rattle.layout.specs.Layout.{entry_size}
-use Rattle.record.specs.Record.{History}
-use Rattle.record.specs.declared.Refusal.{Refusal}
-use Rattle.record.specs.declared.Refusal.TheVariants as R
-use Rattle.record.specs.Refusals.{first_of}
+use Rattle.record.specs.declared.History.{History}
+use Rattle.record.specs.Refusals.{Reply, first_of}
+use Rattle.record.specs.Refusals as R
 use Rattle.record.specs.Sound.{last_time, sound, long_enough}
 use Rattle.record.specs.Firm.{Firm}
 use Rattle.transient.specs.declared.Ongoing.{Ongoing}
@@ -18,7 +17,7 @@ use Rattle.calls.specs.Outcome.{Outcome, or_refused}
 use Rattle.calls.specs.Change.{is_top, stores, carried}
 
 -- 3 record, 2, 4, 7: before the entry is read
-unfoldable pub unasked : History → Quark → ℕ → ℕ → Refusal
+unfoldable pub unasked : History → Quark → ℕ → ℕ → Reply
 unasked h q nodes table = first_of (
     (not (sound h), R.Damaged)
     ∷ (not (long_enough h nodes table), R.Short)
@@ -28,7 +27,7 @@ unasked h q nodes table = first_of (
     )
 
 -- 3 entry, 6, 5
-unfoldable pub untimely : History → Ongoing → ℕ → Refusal
+unfoldable pub untimely : History → Ongoing → ℕ → Reply
 untimely h o t = first_of (
     (not (ongoing_sound o h.start h.latest), R.Damaged)
     ∷ (ltb last_time t, R.Outside)
@@ -37,7 +36,7 @@ untimely h o t = first_of (
     )
 
 -- 9, 10, 11
-unfoldable pub undone : History → Ongoing → Decision → Refusal
+unfoldable pub undone : History → Ongoing → Decision → Reply
 undone h o d = first_of (
     (is_top d, R.Top)
     ∷ (stores d && too_deep (settle h o.start), R.Deep)

@@ -1,38 +1,56 @@
 // Opening a history.
 ghost use Rattle.std.specs.Prelude.{◌≡◌, ◌*◌, ◌≤◌, length};
 ghost use Rattle.layout.specs.Layout.{entry_size};
-ghost use Rattle.record.specs.Record.{record_of};
 ghost use Rattle.calls.specs.Outcome.{Comes};
 ghost use Rattle.calls.specs.Open.{opened, table_opened, open_refusal, open_on};
 
 use layout::{Quark, Shape};
-use record::Refusal;
+use record::{Branch, History, Refusal};
 
 // The record of a history that begins.
-fn begin(h: &mut [u64; 87], start: u64, attributes: u32)
-    ensures { (length h.new ≡ 87) × ((s : Shape) → record_of s h.new ≡ opened start attributes s) }
+#[tactic(auto, unfolding(crate::specs::Open::opened))]
+fn begin(start: u64, attributes: u32, shape: Shape) -> History
+    ensures { result ≡ opened start attributes shape }
 {
-    let mut g = [0u64; 87];
-    g[record::STARTS] = start;
-    g[record::START] = start;
-    g[record::LATEST] = start;
-    g[record::LARGEST_END] = start;
-    g[record::ATTRIBUTES] = attributes as u64;
-    g[record::USED] = 1;
-    *h = g;
+    let mut starts = [0u64; 16];
+    starts[0] = start;
+    History {
+        shape,
+        start,
+        latest: start,
+        largest_end: start,
+        attributes: u64::from(attributes),
+        used: 1,
+        low: 0,
+        top: 0,
+        finished: false,
+        branch: Branch {
+            places: [0; 16],
+            starts,
+            intervals: [0; 16],
+            children: [0; 16],
+            last_ends: [0; 16],
+        },
+    }
 }
 
-fn refusal(start: u64, attributes: u32, shape: Shape, nodes: usize, table: usize) -> Refusal
+fn admit(
+    start: u64,
+    attributes: u32,
+    shape: Shape,
+    nodes: usize,
+    table: usize,
+) -> Result<(), Refusal>
     ensures { result ≡ open_refusal start attributes shape nodes table }
 {
     let allowed = record::sound::shape_allowed(shape);
     if !(allowed & (start <= record::sound::LAST_TIME) & (attributes <= 4096)) {
-        return Refusal::Numbers;
+        return Err(Refusal::Numbers);
     }
-    if !record::sound::long_enough(shape, attributes as u64, false, nodes, table) {
-        return Refusal::Short;
+    if !record::sound::long_enough(shape, u64::from(attributes), false, nodes, table) {
+        return Err(Refusal::Short);
     }
-    Refusal::Nothing
+    Ok(())
 }
 
 // "At opening .. it is null from the history's start."
@@ -40,10 +58,8 @@ fn open_table(table: &mut [u8], start: u64, attributes: u32)
     requires { attributes * entry_size ≤ length table.old }
     ensures { table.new ≡ table_opened start attributes 0 table.old }
 {
-    let mut q: u32 = 0;
-    while q < attributes {
+    for q in 0..attributes {
         transient::put_ongoing(table, Quark(q), transient::begins(start));
-        q += 1;
     }
 }
 
@@ -52,19 +68,15 @@ pub fn open(
     start: u64,
     attributes: u32,
     shape: Shape,
-    h: &mut [u64; 87],
+    h: &mut History,
     nodes: &mut [u8],
     table: &mut [u8],
-) -> Refusal
-    ensures { Comes result shape h.new nodes.new table.new (open_on (record_of shape h.old) start attributes shape nodes.old table.old) }
+) -> Result<(), Refusal>
+    ensures { Comes result h.new nodes.new table.new (open_on h.old start attributes shape nodes.old table.old) }
 {
-    let all = record::sound::entire(h); // for the proof alone
-    let r = refusal(start, attributes, shape, nodes.len(), table.len());
-    let Refusal::Nothing = r else {
-        return r;
-    };
-    begin(h, start, attributes);
-    build::write::plant(nodes, shape, h);
+    admit(start, attributes, shape, nodes.len(), table.len())?;
+    *h = begin(start, attributes, shape);
+    build::write::plant(nodes, h);
     open_table(table, start, attributes);
-    Refusal::Nothing
+    Ok(())
 }

@@ -9,11 +9,10 @@ use lib.ListN.{length}
 use lib.Seq.{sets}
 use borrow.Author.Tests.{le-leb, lt-leb, eqb-true, ltb-false}
 use Rattle.layout.specs.Layout.{entry_size, entry_bytes, spread}
-use Rattle.record.specs.Record.{History}
-use Rattle.record.specs.declared.Refusal.TheVariants as R
+use Rattle.record.specs.declared.History.{History}
+use Rattle.record.specs.Refusals as R
 use Rattle.record.specs.Refusals.{number_of}
-use Rattle.questions.specs.declared.Single.{Single}
-use Rattle.questions.specs.Single.{single_of}
+use Rattle.questions.specs.Single.{Single, single_of}
 use Rattle.full_question.specs.Full.{full_refusal, full_of, full_written}
 use Rattle.model.specs.Transient as M
 use Rattle.model.specs.Transient.{Interval, history}
@@ -28,7 +27,7 @@ use Rattle.model.proofs.Tests.{and_both}
 use Rattle.model.proofs.Proved.{value_said, full_said, single_scans, full_scans, single_enters, full_enters}
 use Rattle.represents.specs.Represents.{entry_of}
 use Rattle.represents.specs.Answered.{SingleAnswered, FullAnswered}
-use Rattle.represents.proofs.Numbers.{zero_nothing}
+use Rattle.record.proofs.Said.{zero_nothing}
 use Rattle.represents.proofs.OneAnswered.{single_answered}
 use Rattle.represents.proofs.AllAnswered.{full_answered}
 use Rattle.demands.specs.Runs.{single, full, State, Answer, says, quark, told, answered as asks, step}

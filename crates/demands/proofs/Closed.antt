@@ -10,8 +10,8 @@ use borrow.Author.Tests.{leb-true, leb-false}
 use Rattle.layout.specs.declared.Shape.{Shape}
 use Rattle.layout.specs.declared.Header.{Header}
 use Rattle.layout.specs.Layout.{node_size, encode, read_header}
-use Rattle.record.specs.Record.{History}
-use Rattle.record.specs.declared.Refusal.TheVariants as R
+use Rattle.record.specs.declared.History.{History}
+use Rattle.record.specs.Refusals as R
 use Rattle.record.proofs.Facts.{sound_numbers}
 use Rattle.walk.specs.View.{view_of}
 use Rattle.model.specs.Transient as M

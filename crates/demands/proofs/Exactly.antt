@@ -6,11 +6,12 @@ use mathlib.Core.List.{List, [], ◌∷◌}
 use lib.Dec.{ltb}
 use lib.ListN.{length, get_or}
 use borrow.Author.Tests.{lt-leb}
+use Rattle.std.specs.Prelude.{Ok, Err}
+use Rattle.record.specs.declared.Refusal.TheVariants as V
 use Rattle.layout.specs.declared.Quark.{Quark}
-use Rattle.record.specs.Record.{History}
-use Rattle.record.specs.declared.Refusal.{Refusal}
-use Rattle.record.specs.declared.Refusal.TheVariants as R
-use Rattle.record.specs.Refusals.{number_of, first_of, accepted}
+use Rattle.record.specs.declared.History.{History}
+use Rattle.record.specs.Refusals.{Reply, number_of, first_of, accepted}
+use Rattle.record.specs.Refusals as R
 use Rattle.transient.specs.declared.Change.{Change}
 use Rattle.transient.specs.declared.Change.TheVariants.{Set, Remove, Increment}
 use Rattle.transient.specs.Transient.{ongoing_at}
@@ -23,15 +24,13 @@ use Rattle.calls.specs.Change.{change_tests, change_refusal}
 use Rattle.calls.specs.Add.{add_refusal, add_of}
 use Rattle.calls.specs.Finish.{trial, finish_refusal, finish_of}
 use Rattle.calls.proofs.Exactly.{exactly as exactly-of}
-use Rattle.calls.proofs.Refused.{accepted_nothing}
+use Rattle.record.proofs.Said.{accepted_nothing}
 use Rattle.calls.proofs.Kept.{open_says, change_says, add_says, finish_says}
-use Rattle.questions.specs.declared.Single.{Single}
 use Rattle.walk.specs.View.{view_of}
 use Rattle.walk.specs.Walk.{walk_of}
-use Rattle.questions.specs.Single.{refused_single, table_entry, told_entry, from_table, single_answer, single_refusal, single_of}
+use Rattle.questions.specs.Single.{Single, refused_single, table_entry, told_entry, from_table, single_answer, single_refusal, single_of}
 use Rattle.full_question.specs.Full.{full_refusal, full_of}
-use Rattle.feed.specs.declared.Reading.TheVariants as F
-use Rattle.feed.specs.Feed.{payload_at, longest, tag_known, length_allowed, tag_at, size_at, whole_at, reading_at}
+use Rattle.feed.specs.Feed.{payload_at, longest, tag_known, length_allowed, tag_at, size_at, whole_at, reading, reading_at}
 use Rattle.demands.specs.Runs.{Call, opening, set, remove, increment, add, finish, single, full, State, Answer, says, quark, if_begun, follows, changed, told, answered as asks, step}
 use Rattle.demands.specs.Tests.{each_tests, after_open, tests_of, feed_tests}
 use Rattle.demands.specs.Demands.{ListExactly, Exactly, FeedExactly, NumbersDiffer, refusal_of}
@@ -55,13 +54,13 @@ pub single_said : (h : History) (t : ℕ) (q : Quark) (nodes table : List ℕ) �
 unfolding single_of refused_single
 single_said h t q nodes table = go (single_refusal h t q.0 nodes table) (accepted (single_refusal h t q.0 nodes table)) refl
   where
-    go : (r : Refusal) (b : Bool) → accepted r ≡ b → (cond b (single_answer (view_of h) t q.0 nodes table) (refused_single r)).refusal ≡ r
+    go : (r : Reply) (b : Bool) → accepted r ≡ b → (cond b (single_answer (view_of h) t q.0 nodes table) (refused_single r)).refusal ≡ r
     go r true a = single_fine h t q.0 nodes table ∙ sym (accepted_nothing r a)
     go r false a = refl
 
 -- ---- finish: the trial as a list of tests
 
-tried_first : (h : History) (p : Plan) (end : ℕ) (rest : History → Refusal) (a b : Bool) → too_deep p ≡ a → no_room h p ≡ b
+tried_first : (h : History) (p : Plan) (end : ℕ) (rest : History → Reply) (a b : Bool) → too_deep p ≡ a → no_room h p ≡ b
     → let r : Tried = cond (accepted (plan_refusal h p)) (record { refusal = R.Nothing; history = planned p end h }) (record { refusal = plan_refusal h p; history = h }) in
     cond (accepted r.refusal) (rest r.history) r.refusal ≡ cond (too_deep p) R.Deep (cond (no_room h p) R.NoRoom (rest (planned p end h)))
 unfolding plan_refusal
@@ -75,13 +74,13 @@ trial_first zero q table t h = refl
 trial_first (suc n) q table t h =
     let p = settle h (ongoing_at table q).start in
     tried_first h p t (λ g. trial n (q + 1) table t g) (too_deep p) (no_room h p) refl refl
-    ∙ ap (λ (x : Refusal). cond (too_deep p) R.Deep (cond (no_room h p) R.NoRoom x)) (trial_first n (q + 1) table t (planned p t h))
+    ∙ ap (λ (x : Reply). cond (too_deep p) R.Deep (cond (no_room h p) R.NoRoom x)) (trial_first n (q + 1) table t (planned p t h))
 
 -- ---- every call
 
 module _ (σ : State) where
   -- "15 no history open"
-  begun_said : (b : Bool) (done : State × Answer) (r : Refusal) → done.1.refusal ≡ r → (cond b done (σ, says R.NotOpen)).1.refusal ≡ cond (not b) R.NotOpen r
+  begun_said : (b : Bool) (done : State × Answer) (r : Reply) → done.1.refusal ≡ r → (cond b done (σ, says R.NotOpen)).1.refusal ≡ cond (not b) R.NotOpen r
   begun_said true done r e = e
   begun_said false done r e = refl
 
@@ -120,8 +119,8 @@ unfolding reading_at whole_at
 feed_said l p lt =
     rw (lt-leb (length l) p lt) (go (ltb longest (length l)) (ltb (length l) (p + 3 + size_at l p)) (tag_known (tag_at l p)) (length_allowed (tag_at l p) (size_at l p)))
   where
-    go : (a b c d : Bool) → refusal_of (cond a (F.Refused R.LongFeed (length l)) (cond b (F.Refused R.Cut (length l)) (cond (not c) (F.Refused R.NoTag (p + 3 + size_at l p))
-        (cond (not d) (F.Refused R.WrongLength (p + 3 + size_at l p)) (F.Read (payload_at l (tag_at l p) (p + 3)) (p + 3 + size_at l p))))))
+    go : (a b c d : Bool) → refusal_of (cond a (reading (Err V.LongFeed) (length l)) (cond b (reading (Err V.Cut) (length l))
+        (reading (cond (not c) (Err V.NoTag) (cond (not d) (Err V.WrongLength) (Ok (payload_at l (tag_at l p) (p + 3))))) (p + 3 + size_at l p))))
         ≡ cond a R.LongFeed (cond b R.Cut (cond (not c) R.NoTag (cond (not d) R.WrongLength R.Nothing)))
     go true b c d = refl
     go false true c d = refl
@@ -138,30 +137,30 @@ feed_exactly l p lt r =
 -- ---- numbers
 
 -- the answers in the order of their numbers
-answers : List Refusal
+answers : List Reply
 answers =
     R.Nothing ∷ R.Numbers ∷ R.Short ∷ R.Damaged ∷ R.Finished ∷ R.Early ∷ R.Outside ∷ R.NoQuark ∷ R.TableFull ∷ R.Top ∷ R.Deep ∷ R.NoRoom ∷ R.NoTag ∷ R.WrongLength ∷ R.Cut
     ∷ R.NotOpen ∷ R.LongFeed ∷ []
 
-back : (r : Refusal) → get_or answers (number_of r) R.Nothing ≡ r
+back : (r : Reply) → get_or answers (number_of r) R.Nothing ≡ r
 unfolding answers number_of
-back R.Nothing = refl
-back R.Numbers = refl
-back R.Short = refl
-back R.Damaged = refl
-back R.Finished = refl
-back R.Early = refl
-back R.Outside = refl
-back R.NoQuark = refl
-back R.TableFull = refl
-back R.Top = refl
-back R.Deep = refl
-back R.NoRoom = refl
-back R.NoTag = refl
-back R.WrongLength = refl
-back R.Cut = refl
-back R.NotOpen = refl
-back R.LongFeed = refl
+back (Ok u) = refl
+back (Err V.Numbers) = refl
+back (Err V.Short) = refl
+back (Err V.Damaged) = refl
+back (Err V.Finished) = refl
+back (Err V.Early) = refl
+back (Err V.Outside) = refl
+back (Err V.NoQuark) = refl
+back (Err V.TableFull) = refl
+back (Err V.Top) = refl
+back (Err V.Deep) = refl
+back (Err V.NoRoom) = refl
+back (Err V.NoTag) = refl
+back (Err V.WrongLength) = refl
+back (Err V.Cut) = refl
+back (Err V.NotOpen) = refl
+back (Err V.LongFeed) = refl
 
 pub numbers_differ : NumbersDiffer
 numbers_differ a b e = sym (back a) ∙ ap (λ (n : ℕ). get_or answers n R.Nothing) e ∙ back b

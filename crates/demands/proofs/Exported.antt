@@ -8,10 +8,9 @@ use lib.ListN.{length}
 use lib.Seq.{sets}
 use Rattle.words.specs.Words.{le}
 use Rattle.layout.specs.Layout.{entry_bytes, spread}
-use Rattle.record.specs.Record.{History}
-use Rattle.record.specs.declared.Refusal.{Refusal}
-use Rattle.record.specs.declared.Refusal.TheVariants as R
-use Rattle.record.specs.Refusals.{number_of, accepted}
+use Rattle.record.specs.declared.History.{History}
+use Rattle.record.specs.Refusals.{Reply, number_of, accepted}
+use Rattle.record.specs.Refusals as R
 use Rattle.walk.specs.View.{view_of}
 use Rattle.questions.specs.Single as one
 use Rattle.full_question.specs.Full as all
@@ -24,7 +23,7 @@ use Rattle.model.specs.Questions.{scans, tally}
 use Rattle.model.specs.Theorems.{left}
 use Rattle.model.proofs.Proved.{full_scans, full_enters}
 use Rattle.represents.specs.Represents.{entry_of}
-use Rattle.represents.proofs.Numbers.{zero_nothing}
+use Rattle.record.proofs.Said.{zero_nothing}
 use Rattle.represents.proofs.AllAnswered.{full_answered, entries_same}
 use Rattle.demands.specs.Runs.{Answer, quark}
 use Rattle.demands.specs.Sequences.{Sequence, now, story, afresh}
@@ -49,7 +48,7 @@ module _ (s : Sequence) where
       let bytes = single_bytes_same h (mirrored s).whole done t (quark q) nodes table (ap accepted ok) in (
         told,
         ap number_of same,
-        ap (λ (r : Refusal). cond (accepted r) (sets b 0 (P.single_bytes (numbers s) t q nodes)) b) same
+        ap (λ (r : Reply). cond (accepted r) (sets b 0 (P.single_bytes (numbers s) t q nodes)) b) same
             ∙ (ap (sets b 0) bytes ∙ ap (λ (x : Answer). sets b 0 (le 8 x.nodes ++ entry_bytes x.entry)) (sym (single_step s q t))),
       )
 
@@ -70,7 +69,7 @@ module _ (s : Sequence) where
       ∙ (entries_same (allowed s) (fitting s) m t (omega (arith, m.start, bt.0)) (omega (arith, m.latest, bt.1)) (left (ran s)).attributes (omega arith)
       ∙ ap (λ (xs : List Interval). spread entry_bytes (map entry_of xs)) (full_scans (ran s) (allowed s) t z ∙ ap (λ (l : M.History). scans l t l.attributes) (leaves s))) in (
         ap number_of same,
-        ap (λ (r : Refusal). cond (accepted r) (sets b 0 (P.full_bytes (numbers s) t nodes)) b) same
+        ap (λ (r : Reply). cond (accepted r) (sets b 0 (P.full_bytes (numbers s) t nodes)) b) same
             ∙ (ap (sets b 0) bytes
             ∙ (ap (λ (n : ℕ). sets b 0 (le 8 n ++ all.full_entries (view_of h) t nodes table 0 h.attributes)) count
             ∙ ap (λ (x : List ℕ). sets b 0 (le 8 (tally t (afresh s)) ++ x)) entries)),

@@ -10,22 +10,23 @@ use lib.ListN.{length, length-append}
 use borrow.Author.Tests.{ltb-true, ltb-false, le-leb}
 use mir.Syntax.{w64}
 use mir.Val.{to_z, sel}
+use Rattle.std.specs.Prelude.{Option, Some, None, Result, Ok, Err}
 use Rattle.words.specs.Words.{num}
 use Rattle.words.proofs.Numbers.{length_le}
+use Rattle.record.specs.declared.Refusal.{Refusal}
 use Rattle.record.specs.declared.Refusal.TheVariants.{NoTag, WrongLength, Cut, LongFeed}
 use Rattle.feed.specs.declared.Record.{Record}
 use Rattle.feed.specs.declared.Record.TheVariants.{Remove, Increment, Add, Finish, Single, Full}
 use Rattle.feed.specs.declared.Reading.{Reading}
-use Rattle.feed.specs.declared.Reading.TheVariants.{End, Read, Refused}
-use Rattle.feed.specs.Feed.{longest, tag_known, length_allowed, tag_at, size_at, quark_at, open_at, set_at, payload_at, whole_at, reading_at, tag_of, record_bytes}
+use Rattle.feed.specs.Feed.{longest, tag_known, length_allowed, tag_at, size_at, quark_at, open_at, set_at, payload_at, whole_at, reading, reading_at, tag_of, record_bytes}
 use Rattle.feed.proofs.Written.{read_back}
 use Rattle.model.specs.State.{int, Within64}
 use Rattle.demands.specs.Sequences.{Fits, AllFit}
-use Rattle.demands.specs.Feeds.{call_of, go_on, records_from, calls_of, feed_of, AllRecordsFit, FeedRead, FeedFits}
+use Rattle.demands.specs.Feeds.{call_of, before, go_on, records_from, calls_of, feed_of, AllRecordsFit, FeedRead, FeedFits}
 
 -- ---- written records are read back
 
-past_end : (l : List ℕ) (p : ℕ) → length l ≤ p → reading_at l p ≡ End
+past_end : (l : List ℕ) (p : ℕ) → length l ≤ p → reading_at l p ≡ None
 unfolding reading_at
 past_end l p e = rw (le-leb (length l) p e)
 
@@ -44,13 +45,13 @@ records_back zero xs [] few fit short = refl
 records_back zero xs (r ∷ rs) few fit short = absurd (omega arith)
 records_back (suc n) xs [] few fit short =
     let e : length (xs ++ []) ≡ length xs = ap (λ (z : List ℕ). length z) (append-nil xs) in
-    ap (λ (x : Reading). go_on x (records_from n (xs ++ []))) (past_end (xs ++ []) (length xs) (omega arith))
+    ap (λ (x : Option Reading). go_on x (records_from n (xs ++ []))) (past_end (xs ++ []) (length xs) (omega arith))
 records_back (suc n) xs (r ∷ rs) few fit short =
     let l = xs ++ (record_bytes r ++ feed_of rs) in
     let ys = xs ++ record_bytes r in
     let same : l ≡ ys ++ feed_of rs = sym (append_assoc xs (record_bytes r) (feed_of rs)) in
     let later = records_back n ys rs (omega arith) fit.1 (omega (arith, ap (λ (z : List ℕ). length z) same)) in
-    ap (λ (x : Reading). go_on x (records_from n l)) (read_back xs r (feed_of rs) fit.0 short)
+    ap (λ (x : Option Reading). go_on x (records_from n l)) (read_back xs r (feed_of rs) fit.0 short)
     ∙ ap (λ (z : List Record). r ∷ z) (ap (records_from n l) (sym (length-append xs (record_bytes r))) ∙ (ap (λ (z : List ℕ). records_from n z (length ys)) same ∙ later))
 
 pub feed_read : FeedRead
@@ -82,17 +83,20 @@ payload_fits l tag p = go (eqb tag 1) (eqb tag 2) (eqb tag 3) (eqb tag 4) (eqb t
     go false false false false false false false = tt
 
 -- a reading of a record whose call fits
-abbrev Reads : Reading → Type 0
-Reads End = Unit {0}
-Reads (Read r p) = Fits (call_of r)
-Reads (Refused n p) = Unit {0}
+abbrev Taken : Result Record Refusal → Type 0
+Taken (Ok r) = Fits (call_of r)
+Taken (Err n) = Unit {0}
+
+abbrev Reads : Option Reading → Type 0
+Reads None = Unit {0}
+Reads (Some x) = Taken x.what
 
 reading_fits : (l : List ℕ) (p : ℕ) → Reads (reading_at l p)
 unfolding reading_at whole_at
 reading_fits l p = go (leb (length l) p) (ltb longest (length l)) (ltb (length l) (p + 3 + size_at l p)) (not (tag_known (tag_at l p))) (not (length_allowed (tag_at l p) (size_at l p)))
   where
-    go : (a b c d e : Bool) → Reads (cond a End (cond b (Refused LongFeed (length l)) (cond c (Refused Cut (length l)) (cond d (Refused NoTag (p + 3 + size_at l p))
-        (cond e (Refused WrongLength (p + 3 + size_at l p)) (Read (payload_at l (tag_at l p) (p + 3)) (p + 3 + size_at l p)))))))
+    go : (a b c d e : Bool) → Reads (cond a None (cond b (reading (Err LongFeed) (length l)) (cond c (reading (Err Cut) (length l))
+        (reading (cond d (Err NoTag) (cond e (Err WrongLength) (Ok (payload_at l (tag_at l p) (p + 3))))) (p + 3 + size_at l p)))))
     go true b c d e = tt
     go false true c d e = tt
     go false false true d e = tt
@@ -100,10 +104,13 @@ reading_fits l p = go (leb (length l) p) (ltb longest (length l)) (ltb (length l
     go false false false false true = tt
     go false false false false false = payload_fits l (tag_at l p) (p + 3)
 
-next_fits : (x : Reading) (rest : ℕ → List Record) → Reads x → ((p : ℕ) → AllFit (map call_of (rest p))) → AllFit (map call_of (go_on x rest))
-next_fits End rest a f = tt
-next_fits (Read r p) rest a f = (a, f p)
-next_fits (Refused n p) rest a f = f p
+before_fits : (x : Result Record Refusal) (rs : List Record) → Taken x → AllFit (map call_of rs) → AllFit (map call_of (before x rs))
+before_fits (Ok r) rs a f = (a, f)
+before_fits (Err n) rs a f = f
+
+next_fits : (x : Option Reading) (rest : ℕ → List Record) → Reads x → ((p : ℕ) → AllFit (map call_of (rest p))) → AllFit (map call_of (go_on x rest))
+next_fits None rest a f = tt
+next_fits (Some x) rest a f = before_fits x.what (rest x.next) a (f x.next)
 
 records_fit : (n : ℕ) (l : List ℕ) (p : ℕ) → AllFit (map call_of (records_from n l p))
 unfolding records_from

@@ -3,9 +3,8 @@ use Prim.Native.Nat.{ℕ}
 use mathlib.Core.Bool.{Bool, true, false, cond, false≢true}
 use mathlib.Core.Path.{◌≡◌, refl, sym, ap, ◌∙◌}
 use lib.ListN.{length}
-use Rattle.record.specs.declared.Refusal.{Refusal}
-use Rattle.record.specs.declared.Refusal.TheVariants as R
-use Rattle.record.specs.Refusals.{accepted}
+use Rattle.record.specs.Refusals.{Reply, accepted}
+use Rattle.record.specs.Refusals as R
 use Rattle.transient.specs.declared.Change.{Change}
 use Rattle.transient.specs.declared.Change.TheVariants.{Set, Remove, Increment}
 use Rattle.calls.specs.Outcome.{Outcome, outcome, answered}
@@ -39,7 +38,7 @@ module _ (σ : State) where
       go false next e = (refl, refl)
 
   -- a change, an adding or a finish
-  call_kept : (o : Outcome) (r : Refusal) → o.answer.refusal ≡ r → (accepted r ≡ false → o ≡ outcome (answered r σ.history) σ.nodes σ.table) → σ.begun ≡ true
+  call_kept : (o : Outcome) (r : Reply) → o.answer.refusal ≡ r → (accepted r ≡ false → o ≡ outcome (answered r σ.history) σ.nodes σ.table) → σ.begun ≡ true
       → Kept σ (follows σ o)
   call_kept o r said kept b e = (ap (λ (x : Outcome). (follows σ x).0) (kept (ap accepted (sym said) ∙ e)) ∙ ap (with σ) (sym b), refl)
 
@@ -58,7 +57,7 @@ module _ (σ : State) where
   unfolding single_of refused_single
   told_kept t q = go (single_refusal σ.history t q σ.nodes σ.table) (accepted (single_refusal σ.history t q σ.nodes σ.table))
     where
-      go : (r : Refusal) (b : Bool) → let a = cond b (single_answer (view_of σ.history) t q σ.nodes σ.table) (refused_single r) in
+      go : (r : Reply) (b : Bool) → let a = cond b (single_answer (view_of σ.history) t q σ.nodes σ.table) (refused_single r) in
           Kept σ (σ, record { refusal = a.refusal; nodes = a.nodes; entry = a.entry })
       go r true e = absurd (false≢true (sym e ∙ ap accepted (single_fine σ.history t q σ.nodes σ.table)))
       go r false e = (refl, refl)

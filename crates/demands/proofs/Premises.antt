@@ -1,4 +1,4 @@
--- What the demands ask for can be met: document 01's listing is a sequence, before and after finish, and every premise of the demands holds of it somewhere. By computation.
+-- What the demands ask for can be met: the specification's listing is a sequence, before and after finish, and every premise of the demands holds of it somewhere. By computation.
 use Prim.Native.Nat.{ℕ, ◌*◌, ◌≤◌, ◌<◌}
 use mathlib.Core.Bool.{true, false}
 use mathlib.Core.Path.{◌≡◌, refl}
@@ -7,7 +7,7 @@ use native.Mathlib.Omega.{arith}
 use lib.IntN.{pos}
 use lib.ListN.{length, replicate}
 use Rattle.layout.specs.Layout.{entry_size, node_size, read_header}
-use Rattle.record.specs.declared.Refusal.TheVariants.{Nothing}
+use Rattle.record.specs.Refusals.{Nothing}
 use Rattle.model.specs.State.{int}
 use Rattle.model.specs.Questions.{said}
 use Rattle.demands.specs.Runs.{Call, set, remove, finish, single, full, step}

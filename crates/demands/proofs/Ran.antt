@@ -3,8 +3,8 @@ use mathlib.Core.Bool.{Bool, true, false, cond, false≢true}
 use mathlib.Core.Path.{◌≡◌, refl, sym, ap, subst, ◌∙◌}
 use mathlib.Core.Logic.{◌⊎◌, inl, inr}
 use mathlib.Core.List.{List, [], ◌∷◌, ◌++◌, append_assoc, append-nil}
-use Rattle.record.specs.declared.Refusal.TheVariants as R
-use Rattle.calls.proofs.Refused.{accepted_nothing}
+use Rattle.record.specs.Refusals as R
+use Rattle.record.proofs.Said.{accepted_nothing}
 use Rattle.demands.specs.Runs.{Call, opening, set, remove, increment, add, finish, single, full, State, Answer, says, if_begun, told, answered as asks, step, run}
 use Rattle.demands.specs.Sequences.{begins, One, Fits, AllFit, first}
 use Rattle.demands.specs.Demands.{LastOpening, EveryRun, EachCall}

@@ -4,9 +4,10 @@ use mathlib.Core.Bool.{Bool, true, false, cond, false≢true}
 use mathlib.Core.Path.{◌≡◌, refl, sym, ap, subst, ◌∙◌}
 use mathlib.Core.List.{List, [], ◌∷◌, ◌++◌}
 use lib.Dec.{eqb}
-use Rattle.record.specs.declared.Refusal.{Refusal}
-use Rattle.record.specs.declared.Refusal.TheVariants as R
-use Rattle.record.specs.Refusals.{number_of, accepted}
+use Rattle.std.specs.Prelude.{Ok, Err}
+use Rattle.record.specs.declared.Refusal.TheVariants as V
+use Rattle.record.specs.Refusals.{Reply, number_of, accepted}
+use Rattle.record.specs.Refusals as R
 use Rattle.calls.specs.Outcome.{Outcome}
 use Rattle.calls.specs.Open.{open_of}
 use Rattle.model.specs.Transient as M
@@ -22,25 +23,25 @@ use Rattle.demands.specs.Sequences.{modelled, accepted_of, begins, One, Fits, Al
 use Rattle.demands.proofs.Kept.{refused_keeps}
 
 -- a number is 0 where the call is accepted
-zero_accepted : (r : Refusal) → eqb (number_of r) 0 ≡ accepted r
+zero_accepted : (r : Reply) → eqb (number_of r) 0 ≡ accepted r
 unfolding number_of
-zero_accepted R.Nothing = refl
-zero_accepted R.Numbers = refl
-zero_accepted R.Short = refl
-zero_accepted R.Damaged = refl
-zero_accepted R.Finished = refl
-zero_accepted R.Early = refl
-zero_accepted R.Outside = refl
-zero_accepted R.NoQuark = refl
-zero_accepted R.TableFull = refl
-zero_accepted R.Top = refl
-zero_accepted R.Deep = refl
-zero_accepted R.NoRoom = refl
-zero_accepted R.NoTag = refl
-zero_accepted R.WrongLength = refl
-zero_accepted R.Cut = refl
-zero_accepted R.NotOpen = refl
-zero_accepted R.LongFeed = refl
+zero_accepted (Ok u) = refl
+zero_accepted (Err V.Numbers) = refl
+zero_accepted (Err V.Short) = refl
+zero_accepted (Err V.Damaged) = refl
+zero_accepted (Err V.Finished) = refl
+zero_accepted (Err V.Early) = refl
+zero_accepted (Err V.Outside) = refl
+zero_accepted (Err V.NoQuark) = refl
+zero_accepted (Err V.TableFull) = refl
+zero_accepted (Err V.Top) = refl
+zero_accepted (Err V.Deep) = refl
+zero_accepted (Err V.NoRoom) = refl
+zero_accepted (Err V.NoTag) = refl
+zero_accepted (Err V.WrongLength) = refl
+zero_accepted (Err V.Cut) = refl
+zero_accepted (Err V.NotOpen) = refl
+zero_accepted (Err V.LongFeed) = refl
 
 same_either : {A : Type 0} (b : Bool) (x : A) → cond b x x ≡ x
 same_either true x = refl

@@ -1,14 +1,13 @@
 -- The three demands, word by word, and what each says. `proofs/Demands.antt` has the proof of each.
-use Rattle.std.specs.Prelude.{ℕ, ◌+◌, ◌*◌, ◌≤◌, ◌<◌, true, false, cond, ◌≡◌, ◌⊎◌, List, [], ◌∷◌, ◌++◌, map, ℤ, length, take, drop}
+use Rattle.std.specs.Prelude.{ℕ, ◌+◌, ◌*◌, ◌≤◌, ◌<◌, true, false, cond, ◌≡◌, ◌⊎◌, List, [], ◌∷◌, ◌++◌, map, ℤ, length, take, drop, Option, Some, None, Result, Ok, Err}
 use Rattle.std.proofs.lemmas.List.Edits.{sets}
 use Rattle.words.specs.Words.{le}
 use Rattle.layout.specs.declared.Shape.{Shape}
 use Rattle.layout.specs.declared.Quark.{Quark}
 use Rattle.layout.specs.Layout.{entry_size, node_size, entry_bytes, spread, read_header}
-use Rattle.record.specs.Record.{History, record_of}
+use Rattle.record.specs.declared.History.{History}
 use Rattle.record.specs.declared.Refusal.{Refusal}
-use Rattle.record.specs.declared.Refusal.TheVariants.{Nothing}
-use Rattle.record.specs.Refusals.{number_of, accepted, first_of}
+use Rattle.record.specs.Refusals.{Reply, Nothing, number_of, accepted, first_of}
 use Rattle.record.specs.Levels.{place_at}
 use Rattle.transient.specs.declared.Change.TheVariants.{Set, Remove, Increment}
 use Rattle.calls.specs.Outcome.{Outcome, Comes}
@@ -18,14 +17,13 @@ use Rattle.calls.specs.Change.{change_of}
 use Rattle.calls.specs.Add.{add_of}
 use Rattle.calls.specs.Finish.{finish_of}
 use Rattle.walk.specs.declared.View.{View}
-use Rattle.questions.specs.declared.Single.{Single}
-use Rattle.full_question.specs.declared.Full.{Full}
-use Rattle.questions.specs.Single.{single_of}
-use Rattle.full_question.specs.Full.{full_of, full_written}
+use Rattle.questions.specs.declared.Answer.{Answer as OneAnswer}
+use Rattle.questions.specs.Single.{said as said_one, single_of}
+use Rattle.full_question.specs.Full.{said_all, full_of, full_written}
 use Rattle.page.specs.Page as P
+use Rattle.feed.specs.declared.Record.{Record}
 use Rattle.feed.specs.declared.Reading.{Reading}
-use Rattle.feed.specs.declared.Reading.TheVariants as F
-use Rattle.feed.specs.Feed.{reading_at}
+use Rattle.feed.specs.Feed.{reading_at, GoesOn}
 use Rattle.model.specs.Transient.{Interval}
 use Rattle.model.specs.Nodes.{upto}
 use Rattle.model.specs.Questions.{ongoing, scan, scans, tally, said}
@@ -52,33 +50,34 @@ EquationSettles = (A : Type 0) (z : A) → Settles {A = A} (λ x. x ≡ z)
 
 -- all that comes back from a call: what it says, and every number and byte that it could write
 pub record Left : Type 0 where
-  pub refusal : Refusal
-  pub words : List ℕ
+  pub refusal : Reply
+  pub history : History
   pub nodes : List ℕ
   pub table : List ℕ
 
 -- a call's promise
-abbrev pub Promised : Shape → Outcome → Left → Type 0
-Promised s o x = Comes x.refusal s x.words x.nodes x.table o
+abbrev pub Promised : Outcome → Left → Type 0
+Promised o x = Comes x.refusal x.history x.nodes x.table o
 
 -- One line for each public function, with the promise that it is proved to keep: of its answer, and of every byte that it could write. (The functions of `questions`
 -- and `full_question` that only `page` and their own files call promise an equation too.)
 pub record Settled : Type 0 where
-  pub opening : (start attributes : ℕ) (shape : Shape) (w nodes table : List ℕ) → Settles (Promised shape (open_on (record_of shape w) start attributes shape nodes table))
-  pub set : (s : Shape) (w : List ℕ) (t : ℕ) (q : Quark) (v : ℤ) (nodes table : List ℕ) → Settles (Promised s (change_of (record_of s w) t q (Set v) nodes table))
-  pub remove : (s : Shape) (w : List ℕ) (t : ℕ) (q : Quark) (nodes table : List ℕ) → Settles (Promised s (change_of (record_of s w) t q Remove nodes table))
-  pub increment : (s : Shape) (w : List ℕ) (t : ℕ) (q : Quark) (nodes table : List ℕ) → Settles (Promised s (change_of (record_of s w) t q Increment nodes table))
-  pub add : (s : Shape) (w nodes table : List ℕ) → Settles (Promised s (add_of (record_of s w) nodes table))
-  pub finish : (s : Shape) (w : List ℕ) (t : ℕ) (nodes table : List ℕ) → Settles (Promised s (finish_of (record_of s w) t nodes table))
-  pub single : (h : History) (t : ℕ) (q : Quark) (nodes table : List ℕ) → Settles {A = Single} (λ a. a ≡ single_of h t q nodes table)
+  pub opening : (start attributes : ℕ) (shape : Shape) (h : History) (nodes table : List ℕ) → Settles (Promised (open_on h start attributes shape nodes table))
+  pub set : (h : History) (t : ℕ) (q : Quark) (v : ℤ) (nodes table : List ℕ) → Settles (Promised (change_of h t q (Set v) nodes table))
+  pub remove : (h : History) (t : ℕ) (q : Quark) (nodes table : List ℕ) → Settles (Promised (change_of h t q Remove nodes table))
+  pub increment : (h : History) (t : ℕ) (q : Quark) (nodes table : List ℕ) → Settles (Promised (change_of h t q Increment nodes table))
+  pub add : (h : History) (nodes table : List ℕ) → Settles (Promised (add_of h nodes table))
+  pub finish : (h : History) (t : ℕ) (nodes table : List ℕ) → Settles (Promised (finish_of h t nodes table))
+  pub single : (h : History) (t : ℕ) (q : Quark) (nodes table : List ℕ) → Settles {A = Result OneAnswer Refusal} (λ r. said_one r ≡ single_of h t q nodes table)
   pub full : (h : History) (t : ℕ) (nodes table b : List ℕ)
-      → Settles {A = Full × List ℕ} (λ x. (x.0 ≡ full_of h t nodes table (length b)) × (x.1 ≡ full_written h t nodes table b))
+      → Settles {A = Result ℕ Refusal × List ℕ} (λ x. (said_all x.0 ≡ full_of h t nodes table (length b)) × (x.1 ≡ full_written h t nodes table b))
   pub history_single : (v : View) (t q : ℕ) (nodes b : List ℕ)
       → Settles {A = ℕ × List ℕ} (λ x. (x.0 ≡ number_of (P.single_refusal v t q nodes (length b))) × (x.1 ≡ P.single_written v t q nodes b))
   pub history_full : (v : View) (t : ℕ) (nodes b : List ℕ)
       → Settles {A = ℕ × List ℕ} (λ x. (x.0 ≡ number_of (P.full_refusal v t nodes (length b))) × (x.1 ≡ P.full_written v t nodes b))
-  -- of the feed: record_at, read_at and next; then new, at place 0, and moved
-  pub record_at : (l : List ℕ) (p : ℕ) → Settles {A = Reading} (λ r. r ≡ reading_at l p)
+  -- of the feed: record_at and read_at; the reader's next, with the reader that it leaves; then new, at place 0, and moved
+  pub record_at : (l : List ℕ) (p : ℕ) → Settles {A = Option Reading} (λ r. r ≡ reading_at l p)
+  pub next : (l : List ℕ) (p : ℕ) → Settles {A = Option (Result Record Refusal) × List ℕ × ℕ} (λ x. GoesOn l p x.0 x.1 x.2)
   pub moved : (l : List ℕ) (p : ℕ) → Settles {A = List ℕ × ℕ} (λ f. (f.0 ≡ l) × (f.1 ≡ p))
 
 -- ═══ "A refused call returns its number, hands the history's record back unaltered and writes to no buffer." ═══
@@ -97,25 +96,29 @@ RefusedUnwritten = (v : View) (t q : ℕ) (nodes b : List ℕ)
 
 -- A list of tests is answered r if and only if a test with this answer holds and none before it does, or none holds and r is 0 (`Given`).
 abbrev pub ListExactly : Type 0
-ListExactly = (tests : List Test) (r : Refusal) → Iff (first_of tests ≡ r) (Given tests Nothing r)
+ListExactly = (tests : List Test) (r : Reply) → Iff (first_of tests ≡ r) (Given tests Nothing r)
 
--- Of every call in every state: `tests_of` has its tests, in document 01's order.
+-- Of every call in every state: `tests_of` has its tests, in the specification's order.
 abbrev pub Exactly : Type 0
-Exactly = (c : Call) (σ : State) (r : Refusal) → Iff ((step c σ).1.refusal ≡ r) (Given (tests_of c σ) Nothing r)
+Exactly = (c : Call) (σ : State) (r : Reply) → Iff ((step c σ).1.refusal ≡ r) (Given (tests_of c σ) Nothing r)
 
--- the refusal of a reading
-abbrev pub refusal_of : Reading → Refusal
-refusal_of F.End = Nothing
-refusal_of (F.Read r p) = Nothing
-refusal_of (F.Refused n p) = n
+-- what is said of a record that was read, or refused
+abbrev pub refusal_in : Result Record Refusal → Reply
+refusal_in (Ok r) = Nothing
+refusal_in (Err n) = Err n
+
+-- and of a reading: past the feed's end nothing is refused
+abbrev pub refusal_of : Option Reading → Reply
+refusal_of None = Nothing
+refusal_of (Some x) = refusal_in x.what
 
 -- Of every feed, at every place before its end.
 abbrev pub FeedExactly : Type 0
-FeedExactly = (l : List ℕ) (p : ℕ) → p < length l → (r : Refusal) → Iff (refusal_of (reading_at l p) ≡ r) (Given (feed_tests l p) Nothing r)
+FeedExactly = (l : List ℕ) (p : ℕ) → p < length l → (r : Reply) → Iff (refusal_of (reading_at l p) ≡ r) (Given (feed_tests l p) Nothing r)
 
 -- No two answers have the same number.
 abbrev pub NumbersDiffer : Type 0
-NumbersDiffer = (a b : Refusal) → number_of a ≡ number_of b → a ≡ b
+NumbersDiffer = (a b : Reply) → number_of a ≡ number_of b → a ≡ b
 
 pub record Demand1 : Type 0 where
   pub settled : Settled
@@ -129,7 +132,7 @@ pub record Demand1 : Type 0 where
 -- ═══════ Demand 2 ═══════
 -- "For a history left as our calls left it, a question about an attribute at t, from the start to the latest accepted time, gives the value of its last accepted change
 -- not after t, or null. It gives the interval that the published tree's transient state makes of those changes. Building and reading agree on the node layout of
--- document 01."
+-- [the specification]."
 
 -- from the start to the latest time, as the record has them
 abbrev pub Between : Sequence → ℕ → Type 0

@@ -1,4 +1,4 @@
--- Document 01's examples E1 to E10 as one table: calls, what each is to say, and the nodes that are to be left. `AllHold` says that all of it comes out, by the
+-- The specification's examples E1 to E10 as one table: calls, what each is to say, and the nodes that are to be left. `AllHold` says that all of it comes out, by the
 -- definitions of the calls and questions, bytes and all; `proofs/Examples.antt` computes it.
 use Rattle.std.specs.Prelude.{ℕ, zero, suc, ◌+◌, ◌*◌, ◌-◌, ◌^◌, false, cond, ◌≡◌, List, [], ◌∷◌, ◌++◌, ℤ, pos, negsuc, replicate}
 use Rattle.std.proofs.Math.Option.{Option, none, some}

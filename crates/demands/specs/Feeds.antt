@@ -1,10 +1,10 @@
 -- A feed as a run: its records are the run's calls.
-use Rattle.std.specs.Prelude.{ℕ, zero, suc, ◌≤◌, ◌≡◌, List, [], ◌∷◌, map, length}
+use Rattle.std.specs.Prelude.{ℕ, zero, suc, ◌≤◌, ◌≡◌, List, [], ◌∷◌, map, length, Option, Some, None, Result, Ok, Err}
 use Rattle.layout.specs.Layout.{spread}
+use Rattle.record.specs.declared.Refusal.{Refusal}
 use Rattle.feed.specs.declared.Record.{Record}
 use Rattle.feed.specs.declared.Record.TheVariants.{Open, Set, Remove, Increment, Add, Finish, Single, Full}
 use Rattle.feed.specs.declared.Reading.{Reading}
-use Rattle.feed.specs.declared.Reading.TheVariants.{End, Read, Refused}
 use Rattle.feed.specs.Feed.{longest, reading_at, record_bytes, RecordFits}
 use Rattle.demands.specs.Runs.{Call, opening, set, remove, increment, add, finish, single, full}
 use Rattle.demands.specs.Sequences.{AllFit}
@@ -20,11 +20,15 @@ call_of (Finish t) = finish t
 call_of (Single t q) = single t q.0
 call_of (Full t) = full t
 
--- what is read at a place, and then what follows from the next: a refused record is "passed over"
-abbrev pub go_on : Reading → (ℕ → List Record) → List Record
-go_on End next = []
-go_on (Read r p) next = r ∷ next p
-go_on (Refused n p) next = next p
+-- what was read, before other records: a refused record is "passed over"
+abbrev pub before : Result Record Refusal → List Record → List Record
+before (Ok r) rs = r ∷ rs
+before (Err n) rs = rs
+
+-- what is read at a place, and then what follows from the next
+abbrev pub go_on : Option Reading → (ℕ → List Record) → List Record
+go_on None next = []
+go_on (Some x) next = before x.what (next x.next)
 
 -- the records from place p on, in no more than n readings
 unfoldable pub records_from : ℕ → List ℕ → ℕ → List Record

@@ -3,10 +3,8 @@ use Rattle.std.specs.Prelude.{ℕ, Bool, true, cond, List, [], ◌∷◌, ℤ, p
 use Rattle.layout.specs.declared.Shape.{Shape}
 use Rattle.layout.specs.declared.Quark.{Quark}
 use Rattle.layout.specs.declared.Entry.{Entry}
-use Rattle.record.specs.Record.{History}
-use Rattle.record.specs.declared.Refusal.{Refusal}
-use Rattle.record.specs.declared.Refusal.TheVariants.{Nothing, NotOpen}
-use Rattle.record.specs.Refusals.{accepted}
+use Rattle.record.specs.declared.History.{History}
+use Rattle.record.specs.Refusals.{Reply, Nothing, NotOpen, accepted}
 use Rattle.transient.specs.declared.Change.{Change}
 use Rattle.transient.specs.declared.Change.TheVariants.{Set, Remove, Increment}
 use Rattle.calls.specs.Outcome.{Outcome}
@@ -38,12 +36,12 @@ pub record State : Type 0 where
 
 -- What a call says: its number and, of a question, the nodes entered and a single question's interval entry. A full question's entries are in the answer's bytes.
 pub record Answer : Type 0 where
-  pub refusal : Refusal
+  pub refusal : Reply
   pub nodes : ℕ
   pub entry : Entry
 
 -- a number and "all other result numbers 0"
-abbrev pub says : Refusal → Answer
+abbrev pub says : Reply → Answer
 says r = record { refusal = r; nodes = 0; entry = record { quark = record { 0 = 0 }; kind = 0; start = 0; end = 0; value = pos 0 } }
 
 -- ═══ One call ═══

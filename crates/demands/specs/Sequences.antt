@@ -1,8 +1,7 @@
 -- "Take any sequence of calls on one history from its opening, each given the record the last one returned, with nobody else writing to its buffers."
 use Rattle.std.specs.Prelude.{ℕ, Bool, false, cond, ◌≡◌, List, [], ◌∷◌, ◌++◌}
 use Rattle.layout.specs.declared.Shape.{Shape}
-use Rattle.record.specs.declared.Refusal.TheVariants.{Nothing}
-use Rattle.record.specs.Refusals.{accepted}
+use Rattle.record.specs.Refusals.{Nothing, accepted}
 use Rattle.model.specs.State.{int, Within64}
 use Rattle.model.specs.Transient as M
 use Rattle.model.specs.Transient.{change, history}

@@ -1,9 +1,8 @@
--- The tests of every call of a run, in document 01's order, each with what it is answered. The lists of the calls are their own (`calls`, specs/Open and the others).
+-- The tests of every call of a run, in the specification's order, each with what it is answered. The lists of the calls are their own (`calls`, specs/Open and the others).
 use Rattle.std.specs.Prelude.{ℕ, zero, suc, ◌+◌, ◌/◌, Bool, not, ◌&&◌, ◌||◌, List, [], ◌∷◌, ◌++◌, leb, ltb, length}
 use Rattle.layout.specs.Layout.{entry_size}
-use Rattle.record.specs.Record.{History}
-use Rattle.record.specs.declared.Refusal.{Refusal}
-use Rattle.record.specs.declared.Refusal.TheVariants.{Short, Damaged, Outside, NoQuark, Deep, NoRoom, NoTag, WrongLength, Cut, NotOpen, LongFeed}
+use Rattle.record.specs.declared.History.{History}
+use Rattle.record.specs.Refusals.{Reply, Short, Damaged, Outside, NoQuark, Deep, NoRoom, NoTag, WrongLength, Cut, NotOpen, LongFeed}
 use Rattle.record.specs.Sound.{sound, long_enough}
 use Rattle.transient.specs.declared.Change.TheVariants.{Set, Remove, Increment}
 use Rattle.transient.specs.Transient.{ongoing_at}
@@ -23,7 +22,7 @@ use Rattle.demands.specs.Runs.{Call, opening, set, remove, increment, add, finis
 
 -- a test, and what it is answered
 abbrev pub Test : Type 0
-Test = Bool × Refusal
+Test = Bool × Reply
 
 -- ═══ Finish ═══
 

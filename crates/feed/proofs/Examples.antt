@@ -3,11 +3,11 @@ use Prim.Native.Nat.{ℕ}
 use mathlib.Core.Path.{◌≡◌, refl}
 use mathlib.Core.List.{List, [], ◌∷◌, ◌++◌}
 use lib.IntN.{negsuc}
+use Rattle.std.specs.Prelude.{None, Ok, Err}
 use Rattle.words.specs.Words.{num}
 use Rattle.record.specs.declared.Refusal.TheVariants.{NoTag, WrongLength, Cut}
 use Rattle.feed.specs.declared.Record.TheVariants.{Open, Set, Remove, Add, Full}
-use Rattle.feed.specs.declared.Reading.TheVariants.{End, Read, Refused}
-use Rattle.feed.specs.Feed.{tag_known, length_allowed, open_at, set_at, payload_at, whole_at, reading_at}
+use Rattle.feed.specs.Feed.{tag_known, length_allowed, open_at, set_at, payload_at, whole_at, reading, reading_at}
 
 -- seven zero bytes: the upper bytes of a small u64
 abbrev z : List ℕ
@@ -22,25 +22,25 @@ feed =
 
 -- one record after the other, each at the place that the one before it gives, to the feed's end
 pub five_records :
-    (reading_at feed 0 ≡ Read (Open 7 4 3 5 257) 23)
-    × (reading_at feed 23 ≡ Read (Set 10 (record { 0 = 2 }) (negsuc 0)) 46)
-    × (reading_at feed 46 ≡ Read Add 49)
-    × (reading_at feed 49 ≡ Read (Remove 300 (record { 0 = 1 })) 64)
-    × (reading_at feed 64 ≡ Read (Full 9) 75)
-    × (reading_at feed 75 ≡ End)
-    × (reading_at feed 1000 ≡ End)
+    (reading_at feed 0 ≡ reading (Ok (Open 7 4 3 5 257)) 23)
+    × (reading_at feed 23 ≡ reading (Ok (Set 10 (record { 0 = 2 }) (negsuc 0))) 46)
+    × (reading_at feed 46 ≡ reading (Ok Add) 49)
+    × (reading_at feed 49 ≡ reading (Ok (Remove 300 (record { 0 = 1 }))) 64)
+    × (reading_at feed 64 ≡ reading (Ok (Full 9)) 75)
+    × (reading_at feed 75 ≡ None)
+    × (reading_at feed 1000 ≡ None)
 unfolding reading_at whole_at tag_known length_allowed payload_at open_at set_at num
 five_records = (refl, refl, refl, refl, refl, refl, refl)
 
 -- 14 before 12, 12 before 13, and where each goes on
 pub refused_records :
-    (reading_at [] 0 ≡ End)
-    × (reading_at (9 ∷ []) 0 ≡ Refused Cut 1)
-    × (reading_at (9 ∷ 0 ∷ []) 0 ≡ Refused Cut 2)
-    × (reading_at (9 ∷ 2 ∷ 0 ∷ 7 ∷ []) 0 ≡ Refused Cut 4)
-    × (reading_at (9 ∷ 2 ∷ 0 ∷ 7 ∷ 7 ∷ []) 0 ≡ Refused NoTag 5)
-    × (reading_at (0 ∷ 0 ∷ 0 ∷ 5 ∷ []) 0 ≡ Refused NoTag 3)
-    × (reading_at (5 ∷ 1 ∷ 0 ∷ 7 ∷ 7 ∷ []) 0 ≡ Refused WrongLength 4)
-    × (reading_at (5 ∷ 0 ∷ 1 ∷ 7 ∷ []) 0 ≡ Refused Cut 4)
+    (reading_at [] 0 ≡ None)
+    × (reading_at (9 ∷ []) 0 ≡ reading (Err Cut) 1)
+    × (reading_at (9 ∷ 0 ∷ []) 0 ≡ reading (Err Cut) 2)
+    × (reading_at (9 ∷ 2 ∷ 0 ∷ 7 ∷ []) 0 ≡ reading (Err Cut) 4)
+    × (reading_at (9 ∷ 2 ∷ 0 ∷ 7 ∷ 7 ∷ []) 0 ≡ reading (Err NoTag) 5)
+    × (reading_at (0 ∷ 0 ∷ 0 ∷ 5 ∷ []) 0 ≡ reading (Err NoTag) 3)
+    × (reading_at (5 ∷ 1 ∷ 0 ∷ 7 ∷ 7 ∷ []) 0 ≡ reading (Err WrongLength) 4)
+    × (reading_at (5 ∷ 0 ∷ 1 ∷ 7 ∷ []) 0 ≡ reading (Err Cut) 4)
 unfolding reading_at whole_at tag_known length_allowed payload_at num
 refused_records = (refl, refl, refl, refl, refl, refl, refl, refl)

@@ -1,4 +1,3 @@
-pub mod Payloads
 pub mod Places
 pub mod Written
 pub mod Examples

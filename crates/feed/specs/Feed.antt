@@ -1,16 +1,17 @@
 -- The feed. Document 01, "The feed and the program".
-use Rattle.std.specs.Prelude.{ℕ, ◌+◌, ◌^◌, ◌<◌, ◌≤◌, ◌≡◌, Bool, true, cond, not, ◌&&◌, ◌||◌, List, [], ◌++◌, length, ltb, leb, eqb}
+use Rattle.std.specs.Prelude.{ℕ, ◌+◌, ◌^◌, ◌<◌, ◌≤◌, ◌≡◌, Bool, true, false, cond, not, ◌&&◌, ◌||◌, List, [], ◌++◌, length, ltb, leb, eqb, Option, Some, None, Result, Ok, Err, MatchOption, MatchResult}
 use Rattle.std.specs.Int.{w64}
 use Rattle.std.proofs.Common.{to_z, of_z, SFits}
 use Rattle.words.specs.Words.{le, num}
 use Rattle.layout.specs.declared.Quark.{Quark}
+use Rattle.record.specs.declared.Refusal.{Refusal}
 use Rattle.record.specs.declared.Refusal.TheVariants.{NoTag, WrongLength, Cut, LongFeed}
 use Rattle.feed.specs.declared.Record.{Record}
 use Rattle.feed.specs.declared.Record.TheVariants.{Open, Set, Remove, Increment, Add, Finish, Single, Full}
 use Rattle.feed.specs.declared.Reading.{Reading}
-use Rattle.feed.specs.declared.Reading.TheVariants.{End, Read, Refused}
 use Rattle.feed.specs.declared.Head.{Head}
-use Rattle.feed.specs.declared.Head.TheVariants.{Whole, Short}
+use Rattle.feed.specs.declared.Tag.{Tag}
+use Rattle.feed.specs.declared.Tag.TheVariants as T
 
 -- ═══ The parts of a record ═══
 
@@ -71,23 +72,47 @@ pub record Payload (l : List ℕ) (tag p : ℕ) : Type 0 where
 -- ═══ What stands at a place ═══
 
 -- "A record with an unknown tag is answered 12 and passed over; 13 likewise": the payload of n bytes stands from index p on
-unfoldable pub whole_at : List ℕ → ℕ → ℕ → ℕ → Reading
+unfoldable pub whole_at : List ℕ → ℕ → ℕ → ℕ → Result Record Refusal
 whole_at l tag p n =
-    cond (not (tag_known tag)) (Refused NoTag (p + n))
-    (cond (not (length_allowed tag n)) (Refused WrongLength (p + n))
-    (Read (payload_at l tag p) (p + n)))
+    cond (not (tag_known tag)) (Err NoTag)
+    (cond (not (length_allowed tag n)) (Err WrongLength)
+    (Ok (payload_at l tag p)))
+
+-- a record or what refuses it, with the next place
+abbrev pub reading : Result Record Refusal → ℕ → Option Reading
+reading what next = Some (record { what = what; next = next })
 
 -- "The order is 16, 14, 12, 13, 15; a place at or past the feed's end has no record left"; "14 ends the feed". 15 is no matter of the feed's.
-unfoldable pub reading_at : List ℕ → ℕ → Reading
+unfoldable pub reading_at : List ℕ → ℕ → Option Reading
 reading_at l p =
-    cond (leb (length l) p) End
-    (cond (ltb longest (length l)) (Refused LongFeed (length l))
-    (cond (ltb (length l) (p + 3 + size_at l p)) (Refused Cut (length l))
-    (whole_at l (tag_at l p) (p + 3) (size_at l p))))
+    cond (leb (length l) p) None
+    (cond (ltb longest (length l)) (reading (Err LongFeed) (length l))
+    (cond (ltb (length l) (p + 3 + size_at l p)) (reading (Err Cut) (length l))
+    (reading (whole_at l (tag_at l p) (p + 3) (size_at l p)) (p + 3 + size_at l p))))
 
 -- the test for 14 by itself: bytes past the feed's end count as zeros, so that fewer than three left are too few too
-unfoldable pub head_at : List ℕ → ℕ → Head
-head_at l p = cond (ltb (length l) (p + 3 + size_at l p)) Short (Whole (tag_at l p) (size_at l p))
+unfoldable pub head_at : List ℕ → ℕ → Option Head
+head_at l p = cond (ltb (length l) (p + 3 + size_at l p)) None (Some (record { tag = tag_at l p; n = size_at l p }))
+
+-- one step of a reader of l at place p: r comes, and it is then a reader of k at place q
+abbrev pub GoesOn : List ℕ → ℕ → Option (Result Record Refusal) → List ℕ → ℕ → Type 0
+GoesOn l p r k q = (k ≡ l) × MatchOption r ((reading_at l p ≡ None) × (q ≡ p)) (λ what. reading_at l p ≡ reading what q)
+
+-- ═══ A tag that is known ═══
+
+abbrev pub tag_number : Tag → ℕ
+tag_number T.Open = 1
+tag_number T.Set = 2
+tag_number T.Remove = 3
+tag_number T.Increment = 4
+tag_number T.Add = 5
+tag_number T.Finish = 6
+tag_number T.Single = 7
+tag_number T.Full = 8
+
+-- the tag with this number, or 12 where it is not known
+abbrev pub Decodes : ℕ → Result Tag Refusal → Type 0
+Decodes byte r = MatchResult r (λ tag. tag_number tag ≡ byte) (λ e. (e ≡ NoTag) × (tag_known byte ≡ false))
 
 -- ═══ A record as bytes ═══
 

@@ -8,12 +8,12 @@ use native.Mathlib.Omega.{arith}
 use lib.Dec.{ltb}
 use lib.ListN.{length}
 use borrow.Author.Tests.{le-ltb, lt-ltb, ltb-false, not-true, not-false}
+use Rattle.std.specs.Prelude.{Option, None}
 use Rattle.layout.specs.declared.Entry.{Entry}
 use Rattle.layout.specs.Layout.{node_size, entry_size}
-use Rattle.record.specs.Record.{History}
-use Rattle.record.specs.declared.Refusal.{Refusal}
-use Rattle.record.specs.declared.Refusal.TheVariants as R
-use Rattle.record.specs.Refusals.{accepted, first_of, first_else}
+use Rattle.record.specs.declared.History.{History}
+use Rattle.record.specs.Refusals.{Reply, accepted, first_of, first_else}
+use Rattle.record.specs.Refusals as R
 use Rattle.record.specs.Sound.{last_time, sound, long_enough, all, admitted}
 use Rattle.record.specs.Moves.{finished_at}
 use Rattle.record.specs.Firm.{Firm}
@@ -30,9 +30,10 @@ use Rattle.build.proofs.Steps.{inserted_history, inserted_length}
 use Rattle.build.proofs.Inserted.{inserted_firm, inserted_room}
 use Rattle.calls.specs.Outcome.{Outcome, answered, outcome}
 use Rattle.calls.specs.Finish.{all_sound, trial, finish_refusal, stored_from, finish_of}
-use Rattle.calls.proofs.Refused.{accepted_nothing, refuses, passes, unadmitted, after_head, comes_refused, comes_done}
+use Rattle.calls.proofs.Refused.{comes_refused, comes_done}
+use Rattle.record.proofs.Said.{accepted_nothing, refuses, passes, unadmitted, after_head}
 use Rattle.finishing.specs.Due.{caught_up}
-use Rattle.finishing.proofs.Due.{none_due, length_caught}
+use Rattle.finishing.proofs.Due.{length_caught}
 
 no : {A : Type 0} → ◌≡◌ {A = ℕ} 0 1 → A
 no e = absurd (omega arith)
@@ -68,12 +69,12 @@ module _ (h : History) (table : List ℕ) (q : ℕ) (so_far : sound_from h.start
 pub trial_begin : (n : ℕ) (table : List ℕ) (t : ℕ) (h : History) → trial (n - 0) 0 table t h ≡ trial n 0 table t h
 trial_begin n table t h = ap (λ (m : ℕ). trial m 0 table t h) (sub-zero n)
 
-module _ (n q : ℕ) (table : List ℕ) (t : ℕ) (g : History) (whole : Refusal) (so_far : trial (n - q) q table t g ≡ whole) where
+module _ (n q : ℕ) (table : List ℕ) (t : ℕ) (g : History) (whole : Reply) (so_far : trial (n - q) q table t g ≡ whole) where
   pub trial_end : n ≤ q → R.Nothing ≡ whole
   unfolding trial
   trial_end le = let z : n - q ≡ 0 = omega arith in simp z at so_far
 
-  module _ (lt : q < n) (o : Ongoing) (read : o ≡ ongoing_at table q) (r : Refusal) (is : r ≡ (tried g o.start t).refusal) where
+  module _ (lt : q < n) (o : Ongoing) (read : o ≡ ongoing_at table q) (r : Reply) (is : r ≡ (tried g o.start t).refusal) where
     abbrev there : Tried
     there = tried g (ongoing_at table q).start t
 
@@ -111,8 +112,9 @@ module _ (n : ℕ) (table : List ℕ) (t : ℕ) (h : History) (b : List ℕ) whe
   store_begins f room = record { firm = f; room = room; long = refl; whole = ap (λ (m : ℕ). stored_from m 0 table t (held h b)) (sub-zero n) }
 
   -- no header is due yet
-  pub late_begins : Firm h → Room h b → StoreLeft n table t h b 0 h (caught_up h 16 b)
-  late_begins f room = subst (StoreLeft n table t h b 0 h) (none_due h 16 b (omega arith)) (store_begins f room)
+  pub late_begins : Firm h → Room h b → StoreLeft n table t h b 0 h (caught_up h None b)
+  unfolding caught_up
+  late_begins f room = store_begins f room
 
   module _ (q : ℕ) (g : History) (c : List ℕ) (left : StoreLeft n table t h b q g c) where
     store_ends : n ≤ q → held g c ≡ stored_from n 0 table t (held h b)
@@ -124,27 +126,23 @@ module _ (n : ℕ) (table : List ℕ) (t : ℕ) (h : History) (b : List ℕ) whe
       unfolding interval
       store_ending = rw is last
 
-      pub store_turn : q < n → o ≡ ongoing_at table q → (k : History) (d : List ℕ) → k ≡ (inserted x (held g c)).history → d ≡ (inserted x (held g c)).nodes → StoreLeft n table t h b (q + 1) k d
+      pub store_turn : q < n → o ≡ ongoing_at table q → (k : History) (d : List ℕ) → held k d ≡ inserted x (held g c) → StoreLeft n table t h b (q + 1) k d
       unfolding stored_from
-      store_turn lt read k d a e =
+      store_turn lt read k d both =
           let z : n - q ≡ suc (n - (q + 1)) = omega arith in
-          let both : held k d ≡ inserted x (held g c) = λ i. record { history = a i; nodes = e i } in
           let entry : x ≡ interval (record { 0 = q }) (ongoing_at table q) t = is ∙ ap (λ (y : Ongoing). interval (record { 0 = q }) y t) read in
           let one : held k d ≡ inserted (interval (record { 0 = q }) (ongoing_at table q) t) (held g c) = both ∙ ap (λ (y : Entry). inserted y (held g c)) entry in
           record {
-            firm = subst Firm (sym a) (inserted_firm g c x left.firm store_ending);
+            firm = subst (λ (σ : Held). Firm σ.history) (sym both) (inserted_firm g c x left.firm store_ending);
             room = subst (λ (σ : Held). Room σ.history σ.nodes) (sym both) (inserted_room g c x left.room);
-            long = ap length e ∙ inserted_length x (held g c) ∙ left.long;
+            long = ap (λ (σ : Held). length σ.nodes) both ∙ inserted_length x (held g c) ∙ left.long;
             whole = ap (stored_from (n - (q + 1)) (q + 1) table t) one ∙ sym (ap (λ (m : ℕ). stored_from m q table t (held g c)) z) ∙ left.whole;
           }
 
   -- the buffer itself, in which the header that is due is still to be written
-  module _ (q : ℕ) (g : History) (due : ℕ) (d : List ℕ) (left : StoreLeft n table t h b q g (caught_up g due d)) where
-    pub late_long : length d ≡ length b
-    late_long = sym (length_caught g due d) ∙ left.long
-
+  module _ (q : ℕ) (g : History) (due : Option ℕ) (d : List ℕ) (left : StoreLeft n table t h b q g (caught_up g due d)) where
     pub late_room : Room g d
-    late_room = omega (arith, left.room, length_caught g due d)
+    late_room = omega (arith, left.room, length_caught g d due)
 
     pub late_ends : n ≤ q → (e : List ℕ) → e ≡ caught_up g due d → held g e ≡ stored_from n 0 table t (held h b)
     late_ends le e is = ap (held g) is ∙ store_ends q g (caught_up g due d) left le
@@ -204,8 +202,8 @@ stored_room (suc n) q table t σ room =
 -- ═══ The list ═══
 
 -- 4, 3 entries, 6, 5, over any tests
-module _ (f x y z : Bool) (s : Refusal) where
-  abbrev listed : Refusal
+module _ (f x y z : Bool) (s : Reply) where
+  abbrev listed : Reply
   listed = first_else ((f, R.Finished) ∷ (not x, R.Damaged) ∷ (y, R.Outside) ∷ (z, R.Early) ∷ []) s
 
   first : f ≡ true → R.Finished ≡ listed
@@ -224,7 +222,7 @@ module _ (f x y z : Bool) (s : Refusal) where
   none a b c d = rw (a, b, c, d)
 
 -- what the trial's table and record give
-module _ (h : History) (nodes long : ℕ) (r : Refusal) (said : r ≡ admitted h nodes long) (e : r ≡ R.Nothing) (going : h.finished ≡ false) where
+module _ (h : History) (nodes long : ℕ) (r : Reply) (said : r ≡ admitted h nodes long) (e : r ≡ R.Nothing) (going : h.finished ≡ false) where
   pub entries_inside : (h.attributes ≤ long / entry_size) × (h.attributes ≤ 4096)
   entries_inside = let f = admitted_facts h nodes long (sym said ∙ e) in (f.2 going, (sound_numbers h f.0).attributes)
 
@@ -232,10 +230,10 @@ module _ (h : History) (nodes long : ℕ) (r : Refusal) (said : r ≡ admitted h
   trial_needs t le = (sound_firm h (admitted_facts h nodes long (sym said ∙ e)).0 going, entries_inside.0, entries_inside.1, le)
 
 module _ (h : History) (t nodes : ℕ) (table : List ℕ) where
-  abbrev rest : Refusal
+  abbrev rest : Reply
   rest = listed h.finished (all_sound h table) (ltb last_time t) (ltb t h.latest) (trial h.attributes 0 table t h)
 
-  module _ (r : Refusal) (said : r ≡ admitted h nodes (length table)) where
+  module _ (r : Reply) (said : r ≡ admitted h nodes (length table)) where
     pub finish_unadmitted : accepted r ≡ false → r ≡ finish_refusal h t nodes table
     unfolding finish_refusal
     finish_unadmitted e = unadmitted h nodes (length table) rest r said e
@@ -264,18 +262,18 @@ module _ (h : History) (t nodes : ℕ) (table : List ℕ) where
               pub finish_early : t < h.latest → R.Early ≡ finish_refusal h t nodes table
               finish_early lt = fourth h.finished (all_sound h table) (ltb last_time t) (ltb t h.latest) (trial h.attributes 0 table t h) a b (le-ltb last_time t le) (lt-ltb t h.latest lt) ∙ after
 
-              pub finish_tried : h.latest ≤ t → (z : Refusal) → z ≡ trial h.attributes 0 table t h → z ≡ finish_refusal h t nodes table
+              pub finish_tried : h.latest ≤ t → (z : Reply) → z ≡ trial h.attributes 0 table t h → z ≡ finish_refusal h t nodes table
               finish_tried ge z c = c ∙ none h.finished (all_sound h table) (ltb last_time t) (ltb t h.latest) (trial h.attributes 0 table t h) a b (le-ltb last_time t le) (le-ltb t h.latest ge) ∙ after
 
 -- ═══ The call ═══
 
 -- accepted: what the tests and the trial say
-module _ (h : History) (t nodes : ℕ) (table : List ℕ) (r : Refusal) (said : r ≡ finish_refusal h t nodes table) (e : r ≡ R.Nothing) where
+module _ (h : History) (t nodes : ℕ) (table : List ℕ) (r : Reply) (said : r ≡ finish_refusal h t nodes table) (e : r ≡ R.Nothing) where
   granted : (admitted h nodes (length table) ≡ R.Nothing) × (h.finished ≡ false) × (ltb last_time t ≡ false) × (trial h.attributes 0 table t h ≡ R.Nothing)
   unfolding finish_refusal admitted
   granted = go (sound h) (long_enough h nodes (length table)) h.finished (all_sound h table) (ltb last_time t) (ltb t h.latest) (trial h.attributes 0 table t h) (sym e ∙ said)
     where
-      go : (a b f x y z : Bool) (s : Refusal) → R.Nothing ≡ first_else ((not a, R.Damaged) ∷ (not b, R.Short) ∷ (f, R.Finished) ∷ (not x, R.Damaged) ∷ (y, R.Outside) ∷ (z, R.Early) ∷ []) s
+      go : (a b f x y z : Bool) (s : Reply) → R.Nothing ≡ first_else ((not a, R.Damaged) ∷ (not b, R.Short) ∷ (f, R.Finished) ∷ (not x, R.Damaged) ∷ (y, R.Outside) ∷ (z, R.Early) ∷ []) s
           → (first_of ((not a, R.Damaged) ∷ (not b, R.Short) ∷ []) ≡ R.Nothing) × (f ≡ false) × (y ≡ false) × (s ≡ R.Nothing)
       go true true false true false false s k = (refl, refl, refl, sym k)
       go true true false true false true s k = no (cc)
@@ -299,19 +297,13 @@ finish_stores h t nodes table e q lt =
     ap (λ (k : ℕ). plan_refusal g (settle g (ongoing_at table k).start)) (sym (zero-add q))
     ∙ none_dropped h.attributes 0 table t (held h nodes) (granted h t (length nodes) table _ refl e).3 q lt
 
-module _ (h : History) (t : ℕ) (nodes table : List ℕ) (r : Refusal) (said : r ≡ finish_refusal h t (length nodes) table) where
+module _ (h : History) (t : ℕ) (nodes table : List ℕ) (r : Reply) (said : r ≡ finish_refusal h t (length nodes) table) where
   pub finish_refused : accepted r ≡ false → outcome (answered r h) nodes table ≡ finish_of h t nodes table
   unfolding finish_of
   finish_refused e = comes_refused r _ said h nodes table _ e
 
   module _ (e : r ≡ R.Nothing) (g : History) (left : List ℕ) where
-    abbrev whole : Held
-    whole = stored_from h.attributes 0 table t (held h nodes)
-
-    module _ (gs : g ≡ whole.history) (lefts : left ≡ whole.nodes) where
-      both : held g left ≡ whole
-      both = λ i. held (gs i) (lefts i)
-
+    module _ (both : held g left ≡ stored_from h.attributes 0 table t (held h nodes)) where
       pub close_needs : Firm g × Room g left
       close_needs =
           let n = finish_needs h t (length nodes) table r said e in

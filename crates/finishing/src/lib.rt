@@ -3,139 +3,116 @@
 
 ghost use Rattle.std.specs.Prelude.{◌≡◌, ◌/◌, ◌≤◌, length};
 ghost use Rattle.layout.specs.Layout.{entry_size};
-ghost use Rattle.record.specs.Record.{record_of, attributes_in};
 ghost use Rattle.record.specs.Sound.{last_time};
 ghost use Rattle.record.specs.Firm.{Firm};
-ghost use Rattle.build.specs.Moves.{Room, Turns};
+ghost use Rattle.build.specs.Moves.{held, Room};
 ghost use Rattle.build.specs.Write.{inserted};
 ghost use Rattle.calls.specs.Outcome.{Comes};
 ghost use Rattle.calls.specs.Finish.{all_sound, trial, finish_refusal, stored_from, finish_of};
 ghost use Rattle.finishing.specs.Due.{Due, caught_up};
 
-use layout::{Entry, Quark, Shape};
-use record::Refusal;
+use layout::{Entry, Quark};
+use record::{History, Refusal};
 
 // Every entry below the attribute count is read, and all have to be sound.
-fn all_sound(shape: Shape, h: &[u64; 87], table: &[u8]) -> bool
-    requires { (attributes_in h.now ≤ length table.now / entry_size) × (attributes_in h.now ≤ 4096) }
-    ensures { result ≡ all_sound (record_of shape h.now) table.now }
+fn all_sound(h: &History, table: &[u8]) -> bool
+    requires { (h.now.attributes ≤ length table.now / entry_size) × (h.now.attributes ≤ 4096) }
+    ensures { result ≡ all_sound h.now table.now }
 {
-    let n = h[record::ATTRIBUTES] as u32;
-    let start = h[record::START];
-    let latest = h[record::LATEST];
-    let mut q: u32 = 0;
-    while q < n {
+    for q in 0..h.attributes as u32 {
         let o = transient::read_ongoing(table, Quark(q));
-        if !transient::ongoing_sound(o, start, latest) {
+        if !transient::ongoing_sound(o, h.start, h.latest) {
             return false;
         }
-        q += 1;
     }
     true
 }
 
 // The trial run: "In finish the first interval in quark order that breaks either decides, depth before room." It has the record by value,
 // a copy: nothing is written.
-fn trial(shape: Shape, h: [u64; 87], table: &[u8], t: u64) -> Refusal
-    requires { Firm (record_of shape h) × (attributes_in h ≤ length table.now / entry_size) × (attributes_in h ≤ 4096) × (t ≤ last_time) }
-    ensures { result ≡ trial (attributes_in h) 0 table.now t (record_of shape h) }
+fn trial(h: History, table: &[u8], t: u64) -> Result<(), Refusal>
+    requires { Firm h × (h.attributes ≤ length table.now / entry_size) × (h.attributes ≤ 4096) × (t ≤ last_time) }
+    ensures { result ≡ trial h.attributes 0 table.now t h }
 {
-    let n = h[record::ATTRIBUTES] as u32;
     let mut g = h;
-    let mut q: u32 = 0;
-    while q < n {
+    for q in 0..h.attributes as u32 {
         let o = transient::read_ongoing(table, Quark(q));
-        let r = build::trial::tried(shape, &mut g, o.start, t);
-        let Refusal::Nothing = r else {
-            return r;
-        };
-        q += 1;
+        build::trial::tried(&mut g, o.start, t)?;
     }
-    Refusal::Nothing
+    Ok(())
 }
 
-// No level's header is still to be written.
-const NONE: u64 = 16;
-
 // The header of the level that is due, if there is one.
-fn write_due(nodes: &mut [u8], shape: Shape, h: &[u64; 87], due: u64)
-    requires { Firm (record_of shape h.now) × Room (record_of shape h.now) nodes.old × Due (record_of shape h.now) due }
-    ensures { nodes.new ≡ caught_up (record_of shape h.now) due nodes.old }
+#[tactic(auto, unfolding(crate::specs::Due::caught_up))]
+fn write_due(nodes: &mut [u8], h: &History, due: Option<u64>)
+    requires { Firm h.now × Room h.now nodes.old × Due h.now due }
+    ensures { nodes.new ≡ caught_up h.now due nodes.old }
 {
-    if due < NONE {
-        build::moves::put_head(nodes, shape, h, due, build::moves::OPEN_END, 1);
+    if let Some(level) = due {
+        build::moves::put_head(nodes, h, level, build::moves::OPEN_END, 1);
     }
 }
 
 // One interval. Where an open node takes it, that node's header is left to be written and its level returned: the next mostly goes into the same node,
 // and one header is enough for the run.
-fn store_one(nodes: &mut [u8], shape: Shape, h: &mut [u64; 87], e: Entry, due: u64) -> u64
-    requires { (length h.old ≡ 87) × Firm (record_of shape h.old) × Room (record_of shape h.old) nodes.old × Due (record_of shape h.old) due × (e.end ≤ last_time) }
-    ensures { Due (record_of shape h.new) result × Turns shape h.old (caught_up (record_of shape h.old) due nodes.old) h.new (caught_up (record_of shape h.new) result nodes.new) (inserted e) }
+fn store_one(nodes: &mut [u8], h: &mut History, e: Entry, due: Option<u64>) -> Option<u64>
+    requires { Firm h.old × Room h.old nodes.old × Due h.old due × (e.end ≤ last_time) }
+    ensures { Due h.new result × (held h.new (caught_up h.new result nodes.new) ≡ inserted e (held h.old (caught_up h.old due nodes.old))) }
 {
     let level = settle::seek(h, e.start);
-    if settle::takes(shape, h, e.start, level) {
-        if level != due {
-            write_due(nodes, shape, h, due);
+    if settle::takes(h, e.start, level) {
+        if due != Some(level) {
+            write_due(nodes, h, due);
         }
-        record::moves::stretched(h, e.end);
-        build::moves::add(nodes, shape, h, e, level);
-        return level;
+        h.stretch(e.end);
+        build::moves::add(nodes, h, e, level);
+        return Some(level);
     }
-    write_due(nodes, shape, h, due);
-    let r = build::write::insert(nodes, shape, h, e);
-    NONE
+    write_due(nodes, h, due);
+    let _ = build::write::insert(nodes, h, e); // the trial has shown that none is refused
+    None
 }
 
 // "Finish at T stores, in quark order, every ongoing interval with end T."
-fn store_all(nodes: &mut [u8], table: &[u8], shape: Shape, h: &mut [u64; 87], t: u64)
-    requires { (length h.old ≡ 87) × Firm (record_of shape h.old) × Room (record_of shape h.old) nodes.old × (attributes_in h.old ≤ length table.now / entry_size) × (attributes_in h.old ≤ 4096) × (t ≤ last_time) }
-    ensures { Turns shape h.old nodes.old h.new nodes.new (stored_from (attributes_in h.old) 0 table.now t) }
+fn store_all(nodes: &mut [u8], table: &[u8], h: &mut History, t: u64)
+    requires { Firm h.old × Room h.old nodes.old × (h.old.attributes ≤ length table.now / entry_size) × (h.old.attributes ≤ 4096) × (t ≤ last_time) }
+    ensures { held h.new nodes.new ≡ stored_from h.old.attributes 0 table.now t (held h.old nodes.old) }
 {
-    let n = h[record::ATTRIBUTES] as u32;
-    let mut q: u32 = 0;
-    let mut due = NONE;
-    while q < n {
+    let mut due = None;
+    for q in 0..h.attributes as u32 {
         let o = transient::read_ongoing(table, Quark(q));
         let e = transient::ongoing_entry(Quark(q), o, t);
-        due = store_one(nodes, shape, h, e, due);
-        q += 1;
+        due = store_one(nodes, h, e, due);
     }
-    write_due(nodes, shape, h, due);
+    write_due(nodes, h, due);
 }
 
-fn refusal(shape: Shape, h: &[u64; 87], t: u64, nodes: usize, table: &[u8]) -> Refusal
-    ensures { (result ≡ finish_refusal (record_of shape h.now) t nodes table.now) × (length h.now ≡ 87) }
+fn admit(h: &History, t: u64, nodes: usize, table: &[u8]) -> Result<(), Refusal>
+    ensures { result ≡ finish_refusal h.now t nodes table.now }
 {
-    let r = record::sound::admit(shape, h, nodes, table.len());
-    let Refusal::Nothing = r else {
-        return r;
-    };
-    if record::sound::finished(h) {
-        return Refusal::Finished;
+    h.admit(nodes, table.len())?;
+    if h.finished {
+        return Err(Refusal::Finished);
     }
-    if !all_sound(shape, h, table) {
-        return Refusal::Damaged;
+    if !all_sound(h, table) {
+        return Err(Refusal::Damaged);
     }
     if record::sound::LAST_TIME < t {
-        return Refusal::Outside;
+        return Err(Refusal::Outside);
     }
-    if t < h[record::LATEST] {
-        return Refusal::Early;
+    if t < h.latest {
+        return Err(Refusal::Early);
     }
-    trial(shape, *h, table, t)
+    trial(*h, table, t)
 }
 
 // Finishes a history at t. Every refusal is found before the first write; the table is only read.
-pub fn finish(shape: Shape, h: &mut [u64; 87], t: u64, nodes: &mut [u8], table: &[u8]) -> Refusal
-    ensures { Comes result shape h.new nodes.new table.now (finish_of (record_of shape h.old) t nodes.old table.now) }
+pub fn finish(h: &mut History, t: u64, nodes: &mut [u8], table: &[u8]) -> Result<(), Refusal>
+    ensures { Comes result h.new nodes.new table.now (finish_of h.old t nodes.old table.now) }
 {
-    let r = refusal(shape, h, t, nodes.len(), table);
-    let Refusal::Nothing = r else {
-        return r;
-    };
-    store_all(nodes, table, shape, h, t);
-    build::write::close_all(nodes, shape, h, t);
-    record::moves::finished(h, t);
-    Refusal::Nothing
+    admit(h, t, nodes.len(), table)?;
+    store_all(nodes, table, h, t);
+    build::write::close_all(nodes, h, t);
+    h.finish(t);
+    Ok(())
 }

@@ -13,17 +13,16 @@ use Rattle.words.proofs.Stores.{sets_append}
 use Rattle.layout.specs.declared.Entry.{Entry}
 use Rattle.layout.specs.Layout.{entry_size, entry_bytes, read_entry}
 use Rattle.layout.proofs.Parts.{length_entry}
-use Rattle.record.specs.declared.Refusal.TheVariants.{Nothing, Damaged}
+use Rattle.record.specs.Refusals.{Nothing, Damaged}
 use Rattle.transient.specs.declared.Ongoing.{Ongoing}
 use Rattle.transient.specs.Transient.{table_at, ongoing_end, ongoing_at, ongoing_sound, interval}
 use Rattle.walk.specs.declared.View.{View}
-use Rattle.full_question.specs.declared.Full.{Full}
 use Rattle.walk.specs.View.{Roomy}
 use Rattle.walk.specs.Rules.{kept}
 use Rattle.walk.specs.Walk.{root_of, walk_of}
 use Rattle.questions.specs.Found.{many, found, found_of, shown}
 use Rattle.questions.specs.Single.{from_table, table_entry, told_entry, entry_fine}
-use Rattle.full_question.specs.Full.{alone, full_entry, every_quark, full_entries, refused_full, walked_refusal, walked_full, walked_written}
+use Rattle.full_question.specs.Full.{Full, alone, full_entry, every_quark, full_entries, refused_full, walked_refusal, walked_full, walked_written}
 use Rattle.full_question.specs.Table.{ongoing, begun_from, all_begun, found_all, entry_for, Readable, entries_from}
 use Rattle.walk.proofs.Room.{table_in}
 use Rattle.walk.proofs.Broken.{false_is, and_left, and_right}
@@ -105,10 +104,10 @@ module _ (nodes table : List ℕ) (q s : ℕ) (r : Entry) where
   entry_node e is = rw (ne_eqb s ongoing e) is
 
 module _ (nodes table xs : List ℕ) (n i p : ℕ) (b : List ℕ) where
-  pub entries_turn : (e : Entry) (c : List ℕ) → e ≡ entry_for nodes table i (get_or xs i 0) → c ≡ sets b p (entry_bytes e) → i < n
-      → sets b p (entries_from nodes table xs i (n - i)) ≡ sets c (p + entry_size) (entries_from nodes table xs (i + 1) (n - (i + 1)))
+  pub entries_turn : (e : Entry) (c : List ℕ) → e ≡ entry_for nodes table i (get_or xs i 0) → c ≡ sets b p (entry_bytes e) → i < n → (next : ℕ) → p + entry_size ≡ next
+      → sets b p (entries_from nodes table xs i (n - i)) ≡ sets c next (entries_from nodes table xs (i + 1) (n - (i + 1)))
   unfolding entries_from
-  entries_turn e c is gives lt =
+  entries_turn e c is gives lt next to =
       let z : n - i ≡ suc (n - (i + 1)) = omega arith in
       let E : List ℕ = entry_bytes (entry_for nodes table i (get_or xs i 0)) in
       let R : List ℕ = entries_from nodes table xs (i + 1) (n - (i + 1)) in
@@ -117,6 +116,7 @@ module _ (nodes table xs : List ℕ) (n i p : ℕ) (b : List ℕ) where
       ∙ sets_append b p E R
       ∙ ap (λ (k : ℕ). sets (sets b p E) (p + k) R) (length_entry (entry_for nodes table i (get_or xs i 0)))
       ∙ ap (λ (m : List ℕ). sets m (p + entry_size) R) y
+      ∙ ap (λ (k : ℕ). sets c k R) to
 
   pub entries_done : n ≤ i → sets b p (entries_from nodes table xs i (n - i)) ≡ b
   unfolding entries_from

@@ -108,7 +108,7 @@ module _ (a t p : ℕ) (e : Entry) (xs : List ℕ) (ones : once a xs ≡ true) (
 
     pub once_second : (l : List ℕ) (n i : ℕ) → e ≡ read_entry l p → i < n → not r ≡ true → once a (note_all l t p (n - i) xs) ≡ false
     once_second l n i reads lt m =
-        ap (once a) (all_turn l t p n i xs e (note t p e xs) reads refl lt)
+        ap (once a) (all_turn l t p n i xs e (note t p e xs) reads refl lt (p + entry_size) refl)
         ∙ all_lost l t a (p + entry_size) (n - (i + 1)) (note t p e xs) (omega (arith, length_note t p e xs)) (once_told ∙ not-true r m)
 
 -- ---- R6 and that nothing was found twice, both told by b

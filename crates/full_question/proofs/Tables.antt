@@ -1,13 +1,14 @@
 -- The full question's table: turn by turn, and that it says of each quark what a single's walk finds. Assumes nothing.
 use Prim.Native.Nat.{ℕ, zero, suc, ◌+◌, ◌-◌, ◌≤◌, ◌<◌}
 use mathlib.Core.Path.{◌≡◌, refl, sym, ap, subst, ◌∙◌}
-use mathlib.Core.Bool.{Bool, true, false, cond, not, ◌&&◌}
+use mathlib.Core.Bool.{Bool, true, false, cond, ◌&&◌}
 use mathlib.Core.List.{List}
+use native.Mathlib.Numerals.{add-one}
 use native.Mathlib.Omega.{arith}
 use lib.Dec.{leb, eqb}
 use lib.ListN.{length, get_or, set, length-set}
 use lib.Seq.{get_or-set_same, get_or-set_other}
-use borrow.Author.Tests.{eqb-true, eqb-false, eq-eqb, ne_eqb, le-leb, lt-leb}
+use borrow.Author.Tests.{eqb-true, eqb-false}
 use Rattle.layout.specs.declared.Entry.{Entry}
 use Rattle.layout.specs.declared.Header.{Header}
 use Rattle.layout.specs.Layout.{entry_size, entry_at, read_header, read_entry}
@@ -19,25 +20,8 @@ use Rattle.walk.specs.Rules.{broken, kept, covers}
 use Rattle.walk.specs.Walk.{place_of, step}
 use Rattle.questions.specs.Found.{more, noted, look, look_in, look_at, found}
 use Rattle.full_question.specs.Table.{ongoing, begun, begun_from, note_if, note, note_all, note_in, note_at, found_from}
-use Rattle.walk.proofs.Broken.{false_is}
 
 -- ---- an entry is noted
-
--- r tells whether it is the first for its quark
-abbrev Told : Bool → ℕ → Entry → List ℕ → Bool → List ℕ → Type 0
-Told a p e xs r ys = (r ≡ not (a && not (eqb (get_or xs e.quark.0 0) 0))) × (r ≡ true → ys ≡ note_if a p e xs)
-
-module _ (p : ℕ) (e : Entry) (xs : List ℕ) (a b : Bool) (is : b ≡ a) where
-  pub note_second : b ≡ true → (get_or xs e.quark.0 0 ≡ 0 → ⊥) → Told a p e xs false xs
-  note_second h some = (rw (← is, h, ne_eqb (get_or xs e.quark.0 0) 0 some), λ z. absurd (false_is z))
-
-  pub note_first : b ≡ true → get_or xs e.quark.0 0 ≡ 0 → Told a p e xs true (set xs e.quark.0 (p + 1))
-  unfolding note_if more
-  note_first h none = (rw (← is, h, eq-eqb (get_or xs e.quark.0 0) 0 none), λ z. rw (← is, h, eq-eqb (get_or xs e.quark.0 0) 0 none))
-
-  pub note_no : b ≡ false → Told a p e xs true xs
-  unfolding note_if
-  note_no h = (rw (← is, h), λ z. rw (← is, h))
 
 module _ (t p : ℕ) (e : Entry) (xs : List ℕ) where
   pub note_told : (a : Bool) (ys : List ℕ) → a ≡ covers t e → ys ≡ note_if a p e xs → ys ≡ note t p e xs
@@ -67,12 +51,12 @@ module _ (t p : ℕ) (e : Entry) (xs : List ℕ) where
 -- ---- a node's entries
 
 module _ (l : List ℕ) (t p n i : ℕ) (xs : List ℕ) where
-  pub all_turn : (e : Entry) (ys : List ℕ) → e ≡ read_entry l p → ys ≡ note t p e xs → i < n → note_all l t p (n - i) xs ≡ note_all l t (p + entry_size) (n - (i + 1)) ys
+  pub all_turn : (e : Entry) (ys : List ℕ) → e ≡ read_entry l p → ys ≡ note t p e xs → i < n → (next : ℕ) → p + entry_size ≡ next → note_all l t p (n - i) xs ≡ note_all l t next (n - (i + 1)) ys
   unfolding note_all
-  all_turn e ys is gives lt =
+  all_turn e ys is gives lt next to =
       let z : n - i ≡ suc (n - (i + 1)) = omega arith in
       let y : note t p (read_entry l p) xs ≡ ys = ap (λ (x : Entry). note t p x xs) (sym is) ∙ sym gives in
-      ap (λ (k : ℕ). note_all l t p k xs) z ∙ ap (λ (x : List ℕ). note_all l t (p + entry_size) (n - (i + 1)) x) y
+      ap (λ (k : ℕ). note_all l t p k xs) z ∙ ap (λ (x : List ℕ). note_all l t (p + entry_size) (n - (i + 1)) x) y ∙ ap (λ (k : ℕ). note_all l t k (n - (i + 1)) ys) to
 
   pub all_done : n ≤ i → note_all l t p (n - i) xs ≡ xs
   unfolding note_all
@@ -124,12 +108,11 @@ note_node l v t level w xs p h first at reads good from = rw (← at, ← reads,
 -- ---- the walk
 
 module _ (l : List ℕ) (v : View) (t : ℕ) where
-  pub from_turn : (n : ℕ) (w : Walk) (xs : List ℕ) → 0 < n → w.go ≡ true → found_from l v t n w xs ≡ found_from l v t (n - 1) (step l v t (n - 1) w) (note_at l v t (n - 1) w xs)
+  pub from_turn : (n : ℕ) (w : Walk) (xs : List ℕ) → w.go ≡ true → found_from l v t (n + 1) w xs ≡ found_from l v t n (step l v t n w) (note_at l v t n w xs)
   unfolding found_from
-  from_turn n w xs some going =
-      let e : n ≡ suc (n - 1) = omega arith in
-      ap (λ (k : ℕ). found_from l v t k w xs) e
-      ∙ ap (λ (b : Bool). cond b (found_from l v t (n - 1) (step l v t (n - 1) w) (note_at l v t (n - 1) w xs)) xs) going
+  from_turn n w xs going =
+      ap (λ (k : ℕ). found_from l v t k w xs) (add-one n)
+      ∙ ap (λ (b : Bool). cond b (found_from l v t n (step l v t n w) (note_at l v t n w xs)) xs) going
 
   pub from_stop : (n : ℕ) (w : Walk) (xs : List ℕ) → w.go ≡ false → xs ≡ found_from l v t n w xs
   unfolding found_from
@@ -152,14 +135,6 @@ module _ (l : List ℕ) (v : View) (t : ℕ) where
 -- ---- the ongoing states
 
 module _ (q start t : ℕ) (xs : List ℕ) where
-  pub begun_yes : start ≤ t → set xs q ongoing ≡ begun q start t xs
-  unfolding begun
-  begun_yes h = rw (le-leb start t h)
-
-  pub begun_no : t < start → xs ≡ begun q start t xs
-  unfolding begun
-  begun_no h = rw (lt-leb start t h)
-
   pub length_begun : length (begun q start t xs) ≡ length xs
   unfolding begun
   length_begun = go (leb start t)

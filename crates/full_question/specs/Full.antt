@@ -1,15 +1,13 @@
 -- The full question: one walk, one interval entry per attribute; for each quark what a single question tells.
-use Rattle.std.specs.Prelude.{ℕ, zero, suc, ◌+◌, ◌/◌, Bool, true, cond, not, ◌&&◌, ◌||◌, List, [], ◌∷◌, ◌++◌, ltb, eqb, length}
+use Rattle.std.specs.Prelude.{ℕ, zero, suc, ◌+◌, ◌/◌, Bool, true, cond, not, ◌&&◌, ◌||◌, List, [], ◌∷◌, ◌++◌, ltb, eqb, length, Result, Ok, Err}
 use Rattle.std.proofs.lemmas.List.Edits.{sets}
 use Rattle.layout.specs.declared.Entry.{Entry}
 use Rattle.layout.specs.Layout.{entry_size, entry_bytes}
-use Rattle.record.specs.Record.{History}
+use Rattle.record.specs.declared.History.{History}
 use Rattle.record.specs.declared.Refusal.{Refusal}
-use Rattle.record.specs.declared.Refusal.TheVariants.{Short, Damaged, Outside}
-use Rattle.record.specs.Refusals.{first_of, accepted}
+use Rattle.record.specs.Refusals.{Reply, Nothing, Short, Damaged, Outside, first_of, accepted}
 use Rattle.record.specs.Sound.{sound, long_enough}
 use Rattle.walk.specs.declared.View.{View}
-use Rattle.full_question.specs.declared.Full.{Full}
 use Rattle.walk.specs.View.{view_of, asked}
 use Rattle.walk.specs.Rules.{kept}
 use Rattle.walk.specs.Walk.{walk_of}
@@ -38,12 +36,22 @@ unfoldable pub full_entries : View → ℕ → List ℕ → List ℕ → ℕ →
 full_entries v t nodes table q zero = []
 full_entries v t nodes table q (suc n) = entry_bytes (full_entry v t nodes table q) ++ full_entries v t nodes table (q + 1) n
 
+-- what a full question says, and how many nodes it entered
+pub record Full : Type 0 where
+  pub refusal : Reply
+  pub nodes : ℕ
+
 -- "A refusal returns its number with all other result numbers 0"
-unfoldable pub refused_full : Refusal → Full
+unfoldable pub refused_full : Reply → Full
 refused_full r = record { refusal = r; nodes = 0 }
 
+-- the same of what a function returned
+unfoldable pub said_all : Result ℕ Refusal → Full
+said_all (Ok n) = record { refusal = Nothing; nodes = n }
+said_all (Err r) = refused_full (Err r)
+
 -- the last 3: the ongoing entries, then the walk (R1 to R6), then R7
-unfoldable pub walked_refusal : View → ℕ → List ℕ → List ℕ → Refusal
+unfoldable pub walked_refusal : View → ℕ → List ℕ → List ℕ → Reply
 walked_refusal v t nodes table =
     first_of (
     (not (every_quark (λ q. entry_fine v q table) v.attributes), Damaged)
@@ -63,7 +71,7 @@ walked_written v t nodes table at b = cond (accepted (walked_refusal v t nodes t
 -- ═══ The question ═══
 
 -- "query 3 record, 2, 7, 6, 3": no quark is named, so there is no 7
-unfoldable pub full_refusal : History → ℕ → List ℕ → List ℕ → ℕ → Refusal
+unfoldable pub full_refusal : History → ℕ → List ℕ → List ℕ → ℕ → Reply
 full_refusal h t nodes table answer =
     let v = view_of h in
     first_of (

@@ -1,38 +1,29 @@
 // The full question: all attributes' states at t, in one walk.
-ghost use Rattle.std.specs.Prelude.{◌≡◌, true, false, not, ◌&&◌, ℕ, ◌+◌, ◌*◌, ◌/◌, ◌≤◌, ◌<◌, ltb, eqb, length, get_or};
+ghost use Rattle.std.specs.Prelude.{◌≡◌, true, false, not, ◌&&◌, ℕ, ◌+◌, ◌*◌, ◌/◌, ◌≤◌, ◌<◌, eqb, length, get_or, is_some, IfSome};
 ghost use Rattle.std.proofs.lemmas.List.Edits.{sets};
 ghost use Rattle.layout.specs.Layout.{entry_size, entry_name};
-ghost use Rattle.record.specs.Record.{record_of};
 ghost use Rattle.walk.specs.View.{Roomy};
 ghost use Rattle.walk.specs.Since.{reaches};
 ghost use Rattle.walk.specs.Rules.{kept};
 ghost use Rattle.walk.specs.Walk.{all_sound, walk_of};
 ghost use Rattle.questions.specs.Found.{shown};
 ghost use Rattle.questions.specs.Single.{entry_fine};
-ghost use Rattle.full_question.specs.Full.{every_quark, refused_full, walked_full, walked_written, full_of, full_written};
+ghost use Rattle.full_question.specs.Full.{every_quark, said_all, walked_full, walked_written, full_of, full_written};
 ghost use Rattle.full_question.specs.Table.{note_if, note_all, found_all, once, begun, all_begun, entry_for, entries_from, Readable};
 
-use crate::Full;
-use layout::{Entry, Header, Quark, Shape};
-use record::Refusal;
-use walk::{View, known, rules, steps};
+use layout::{Entry, Header, Quark};
+use record::{History, Refusal};
+use walk::{View, Walk, known, rules, steps};
 
 // What was found for each quark: 0 nothing, p + 1 the one entry at byte p, ONGOING its ongoing state. At a second one the question ends.
 const ONGOING: u32 = 0xffff_fffe;
 
-fn refused(r: Refusal) -> Full
-    ensures { result ≡ refused_full r }
-{
-    Full {
-        refusal: r,
-        nodes: 0,
-    }
-}
-
 // An entry at byte p that covers t is noted for its quark. Tells false where that quark has one already: R7 is broken, whatever else is found.
+#[tactic(auto, unfolding(crate::specs::Table::note_if, questions::specs::Found::more))]
 fn note(found: &mut [u32], t: u64, p: usize, e: Entry) -> bool
     requires { (p + entry_size ≤ 4294967296) × (e.quark.0 < length found.old) }
-    ensures { (result ≡ not (reaches t e && not (eqb (get_or found.old e.quark.0 0) 0))) × (result ≡ true → found.new ≡ note_if (reaches t e) p e found.old) }
+    ensures told { result ≡ not (reaches t e && not (eqb (get_or found.old e.quark.0 0) 0)) }
+    ensures notes { result ≡ true → found.new ≡ note_if (reaches t e) p e found.old }
 {
     if rules::reaches(t, e) {
         let q = e.quark.0 as usize;
@@ -55,13 +46,13 @@ fn look(
     found: &mut [u32],
 ) -> bool
     requires { (at + entry_size * n ≤ length nodes.now) × (at + entry_size * n ≤ 4294967296) × (attributes ≤ length found.old) × (once attributes found.old ≡ true) }
-    ensures { (result ≡ (all_sound nodes.now attributes h at n true && once attributes (note_all nodes.now t at n found.old))) × (result ≡ true → found.new ≡ note_all nodes.now t at n found.old) }
+    ensures told { result ≡ (all_sound nodes.now attributes h at n true && once attributes (note_all nodes.now t at n found.old)) }
+    ensures notes { result ≡ true → found.new ≡ note_all nodes.now t at n found.old }
 {
-    let mut i: u32 = 0;
-    let mut p = at;
     let mut nulls: u64 = 0;
     let mut kinds: u64 = 0;
-    while i < n {
+    for i in 0..n {
+        let p = at + layout::ENTRY * (i as usize);
         let e = layout::read_entry(nodes, p);
         if !rules::lies(attributes, h.start, h.end, e) {
             return false;
@@ -71,49 +62,48 @@ fn look(
         if !note(found, t, p, e) {
             return false;
         }
-        p += layout::ENTRY;
-        i += 1;
     }
     (nulls == 0) & (kinds <= 1)
 }
 
-// The walk: R1 to R6 of the nodes that it enters, and each of their entries noted for its quark, up to a second one. Tells how many nodes they are, 0 where a rule is broken.
+// The walk: each entry of the nodes that it enters is noted for its quark. Tells how many nodes they are, if they keep R1 to R6 and no second one is found for a quark; else R7 is broken too.
 // Where a node's way goes on is found before its entries are looked at: the next node's header is on its way from memory meanwhile.
-fn gather(nodes: &[u8], v: View, t: u64, attributes: u32, found: &mut [u32]) -> u32
+fn gather(nodes: &[u8], v: View, t: u64, attributes: u32, found: &mut [u32]) -> Option<u32>
     requires { Roomy v nodes.now × (attributes ≡ v.attributes) × (attributes ≤ length found.old) × (once attributes found.old ≡ true) }
-    ensures { (ltb 0 result ≡ (kept (walk_of nodes.now v t).rule && once attributes (found_all nodes.now v t found.old))) × (0 < result → (result ≡ (walk_of nodes.now v t).entered) × (found.new ≡ found_all nodes.now v t found.old)) }
+    ensures told { is_some result ≡ (kept (walk_of nodes.now v t).rule && once attributes (found_all nodes.now v t found.old)) }
+    ensures gathers { IfSome result (λ n. (n ≡ (walk_of nodes.now v t).entered) × (found.new ≡ found_all nodes.now v t found.old)) }
 {
     let mut w = steps::root(v);
-    let mut level = v.level + 1;
-    while 0 < level {
-        level -= 1;
+    for level in (0..=v.level).rev() {
         let at = record::sound::stands_at(w.place.0, v.shape);
         let h = layout::read_header(nodes, at);
         let rule = rules::broken(v, w, level, h);
-        if !rules::kept(rule) {
-            return 0;
+        if rule.is_some() {
+            return None;
         }
-        let k = steps::pick(nodes, at + layout::child_at(0), h.children as u32, t);
-        let mut c = w;
-        c.entered = w.entered + 1;
-        let g = steps::down_to(nodes, v, t, h, at, k, c);
-        let past = g.rule;
-        if !rules::kept(past) {
-            return 0;
+        let picked = steps::pick(nodes, at + layout::child_at(0), h.children as u32, t);
+        let counted = Walk {
+            entered: w.entered + 1,
+            ..w
+        };
+        let g = steps::down_to(nodes, v, t, h, at, picked, counted);
+        if g.rule.is_some() {
+            return None;
         }
         let first = at + layout::entry_at(v.shape, 0);
         if !look(nodes, attributes, h, t, first, h.intervals as u32, found) {
-            return 0;
+            return None;
         }
         w = g;
         if !g.go {
-            level = 0;
+            break;
         }
     }
-    w.entered
+    Some(w.entered)
 }
 
 // An ongoing state that starts at or below t is noted.
+#[tactic(auto, unfolding(crate::specs::Table::begun))]
 fn begin(found: &mut [u32], q: u32, start: u64, t: u64)
     requires { q < length found.old }
     ensures { found.new ≡ begun q start t found.old }
@@ -127,19 +117,18 @@ fn begin(found: &mut [u32], q: u32, start: u64, t: u64)
 // The ongoing entries are tested, and those that start at or below t noted; once finished none is read.
 fn note_ongoing(table: &[u8], v: View, t: u64, found: &mut [u32]) -> bool
     requires { (v.attributes ≤ length found.old) × (v.finished ≡ false → v.attributes ≤ length table.now / entry_size) }
-    ensures { (result ≡ every_quark (λ q. entry_fine v q table.now) v.attributes) × (result ≡ true → found.new ≡ all_begun v t table.now found.old) }
+    ensures fine { result ≡ every_quark (λ q. entry_fine v q table.now) v.attributes }
+    ensures begins { result ≡ true → found.new ≡ all_begun v t table.now found.old }
 {
     if v.finished {
         return true;
     }
-    let mut q: u32 = 0;
-    while q < v.attributes {
+    for q in 0..v.attributes {
         let o = transient::read_ongoing(table, Quark(q));
         if !transient::ongoing_sound(o, v.start, v.latest) {
             return false;
         }
         begin(found, q, o.start, t);
-        q += 1;
     }
     true
 }
@@ -149,24 +138,22 @@ fn all_one(found: &[u32], n: u32) -> bool
     requires { (n ≤ length found.now) × (once n found.now ≡ true) }
     ensures { result ≡ every_quark (λ q. shown (get_or found.now q 0)) n }
 {
-    let mut i: u32 = 0;
     let mut all = true;
-    while i < n {
-        let q = i as usize;
-        all = all & (found[q] != 0);
-        i += 1;
+    for s in &found[..n as usize] {
+        all &= *s != 0;
     }
     all
 }
 
 // What answers for a quark: its ongoing state, or the entry that was found.
+#[tactic(auto, unfolding(crate::specs::Table::entry_for, questions::specs::Single::table_entry))]
 fn entry_for(nodes: &[u8], table: &[u8], q: u32, s: u32) -> Entry
     requires { Readable nodes.now table.now q s }
     ensures { result ≡ entry_for nodes.now table.now q s }
 {
     if s == ONGOING {
         let o = transient::read_ongoing(table, Quark(q));
-        return transient::ongoing_entry(Quark(q), o, 0xffff_ffff_ffff_ffff);
+        return transient::ongoing_entry(Quark(q), o, u64::MAX);
     }
     layout::read_entry(nodes, (s - 1) as usize)
 }
@@ -188,15 +175,11 @@ fn write_entries(nodes: &[u8], table: &[u8], found: &[u32], answer: &mut [u8], a
     requires { (n ≤ length found.now) × (at + entry_size * n ≤ length answer.old) × ((q : ℕ) → q < n → Readable nodes.now table.now q (get_or found.now q 0)) }
     ensures { answer.new ≡ sets answer.old at (entries_from nodes.now table.now found.now 0 n) }
 {
-    let mut i: u32 = 0;
-    let mut p = at;
-    while i < n {
-        let q = i as usize;
-        let e = entry_for(nodes, table, i, found[q]);
-        let name = name_for(nodes, table, i, found[q]);
-        layout::put_named(answer, p, name, e);
-        p += layout::ENTRY;
-        i += 1;
+    for q in 0..n {
+        let s = found[q as usize];
+        let e = entry_for(nodes, table, q, s);
+        let name = name_for(nodes, table, q, s);
+        layout::put_named(answer, at + layout::ENTRY * (q as usize), name, e);
     }
 }
 
@@ -211,64 +194,75 @@ fn walked_in(
     at: usize,
     attributes: u32,
     found: &mut [u32],
-) -> Full
+) -> Result<u32, Refusal>
     requires { Roomy v nodes.now × (attributes ≡ v.attributes) × (v.finished ≡ false → v.attributes ≤ length table.now / entry_size) × (at + entry_size * v.attributes ≤ length answer.old) × (v.attributes ≤ length found.old) × ((q : ℕ) → q < v.attributes → get_or found.old q 0 ≡ 0) }
-    ensures { (result ≡ walked_full v t nodes.now table.now) × (answer.new ≡ walked_written v t nodes.now table.now at answer.old) }
+    ensures { (said_all result ≡ walked_full v t nodes.now table.now) × (answer.new ≡ walked_written v t nodes.now table.now at answer.old) }
 {
     if !note_ongoing(table, v, t, found) {
-        return refused(Refusal::Damaged);
+        return Err(Refusal::Damaged);
     }
-    let n = gather(nodes, v, t, attributes, found);
-    if n == 0 {
-        return refused(Refusal::Damaged);
-    }
+    let Some(entered) = gather(nodes, v, t, attributes, found) else {
+        return Err(Refusal::Damaged);
+    };
     if !all_one(found, attributes) {
-        return refused(Refusal::Damaged);
+        return Err(Refusal::Damaged);
     }
     write_entries(nodes, table, found, answer, at, attributes);
-    Full {
-        refusal: Refusal::Nothing,
-        nodes: n,
-    }
+    Ok(entered)
 }
 
-// What was found lies in an array that is not much longer than the attributes are many: clearing all 4096 numbers would cost a small history more than the walk.
-pub fn walked(v: View, t: u64, nodes: &[u8], table: &[u8], answer: &mut [u8], at: usize) -> Full
-    requires { Roomy v nodes.now × (v.finished ≡ false → v.attributes ≤ length table.now / entry_size) × (at + entry_size * v.attributes ≤ length answer.old) }
-    ensures { (result ≡ walked_full v t nodes.now table.now) × (answer.new ≡ walked_written v t nodes.now table.now at answer.old) }
-{
-    if v.attributes <= 64 {
-        let mut few = [0u32; 64];
-        return walked_in(v, t, nodes, table, answer, at, v.attributes, &mut few);
-    }
-    if v.attributes <= 512 {
-        let mut some = [0u32; 512];
-        return walked_in(v, t, nodes, table, answer, at, v.attributes, &mut some);
-    }
-    let mut found = [0u32; 4096];
-    walked_in(v, t, nodes, table, answer, at, v.attributes, &mut found)
-}
-
-pub fn full(
-    shape: Shape,
-    h: &[u64; 87],
+// What is found lies in an array of N numbers.
+fn walked_with<const N: usize>(
+    v: View,
     t: u64,
     nodes: &[u8],
     table: &[u8],
     answer: &mut [u8],
-) -> Full
-    ensures { (result ≡ full_of (record_of shape h.now) t nodes.now table.now (length answer.old)) × (answer.new ≡ full_written (record_of shape h.now) t nodes.now table.now answer.old) }
+    at: usize,
+) -> Result<u32, Refusal>
+    requires { Roomy v nodes.now × (v.finished ≡ false → v.attributes ≤ length table.now / entry_size) × (at + entry_size * v.attributes ≤ length answer.old) × (v.attributes ≤ N) × (N ≤ 4096) }
+    ensures { (said_all result ≡ walked_full v t nodes.now table.now) × (answer.new ≡ walked_written v t nodes.now table.now at answer.old) }
 {
-    if !record::sound::sound(shape, h) {
-        return refused(Refusal::Damaged);
+    let mut found = [0u32; N];
+    walked_in(v, t, nodes, table, answer, at, v.attributes, &mut found)
+}
+
+// What was found lies in an array that is not much longer than the attributes are many: clearing all 4096 numbers would cost a small history more than the walk.
+pub fn walked(
+    v: View,
+    t: u64,
+    nodes: &[u8],
+    table: &[u8],
+    answer: &mut [u8],
+    at: usize,
+) -> Result<u32, Refusal>
+    requires { Roomy v nodes.now × (v.finished ≡ false → v.attributes ≤ length table.now / entry_size) × (at + entry_size * v.attributes ≤ length answer.old) }
+    ensures { (said_all result ≡ walked_full v t nodes.now table.now) × (answer.new ≡ walked_written v t nodes.now table.now at answer.old) }
+{
+    match v.attributes {
+        0..=64 => walked_with::<64>(v, t, nodes, table, answer, at),
+        65..=512 => walked_with::<512>(v, t, nodes, table, answer, at),
+        _ => walked_with::<4096>(v, t, nodes, table, answer, at),
     }
-    let v = known::view_of(shape, h);
-    let long = known::long_for(v, nodes.len(), table.len());
-    if !long | (answer.len() / layout::ENTRY < v.attributes as usize) {
-        return refused(Refusal::Short);
+}
+
+// "query 3 record, 2, 7, 6, 3": no quark is named, so there is no 7. "the answer under 32 bytes per attribute" is 2 too.
+pub fn full(
+    h: &History,
+    t: u64,
+    nodes: &[u8],
+    table: &[u8],
+    answer: &mut [u8],
+) -> Result<u32, Refusal>
+    ensures { (said_all result ≡ full_of h.now t nodes.now table.now (length answer.old)) × (answer.new ≡ full_written h.now t nodes.now table.now answer.old) }
+{
+    h.admit(nodes.len(), table.len())?;
+    let v = known::view_of(h);
+    if answer.len() / layout::ENTRY < v.attributes as usize {
+        return Err(Refusal::Short);
     }
     if !known::asked(v, t) {
-        return refused(Refusal::Outside);
+        return Err(Refusal::Outside);
     }
     walked(v, t, nodes, table, answer, 0)
 }

@@ -1,28 +1,20 @@
--- Where the program starts, and what document 01 says of 15 and of a second open, as theorems about `carried`. Assumes nothing.
+-- What the specification says of 15 and of a second open, as theorems about `carried`. Assumes nothing.
 use Prim.Native.Nat.{ℕ}
 use mathlib.Core.Path.{◌≡◌, refl, sym, ap, ◌∙◌}
 use mathlib.Core.Bool.{Bool, true, false, cond, ◌||◌}
 use mathlib.Core.List.{List}
-use lib.ListN.{length, replicate}
+use lib.ListN.{length}
 use Rattle.layout.specs.declared.Shape.{Shape}
-use Rattle.record.specs.Record.{sixteen, branch_of}
-use Rattle.record.specs.declared.Refusal.{Refusal}
-use Rattle.record.specs.declared.Refusal.TheVariants as R
-use Rattle.record.specs.Refusals.{accepted}
+use Rattle.record.specs.Refusals.{Reply, accepted}
+use Rattle.record.specs.Refusals as R
 use Rattle.build.specs.Write.{planted}
 use Rattle.feed.specs.declared.Record.{Record}
 use Rattle.feed.specs.declared.Record.TheVariants.{Open}
 use Rattle.calls.specs.Outcome.{Outcome, answered, outcome}
 use Rattle.calls.specs.Open.{blank, opened, table_opened, open_refusal, open_on, open_of}
 use Rattle.calls.proofs.Refused.{comes_refused}
-use Rattle.history.specs.declared.step.Shown.TheVariants.{Said}
-use Rattle.history.specs.Step.{State, Done, leaving, done, state_in, none, unopened, opened_by, after, after_open, opens, called, carried}
+use Rattle.history.specs.Step.{State, Said, Done, leaving, done, opened_by, after, after_open, opens, called, carried}
 use Rattle.history.proofs.Records.{open_refused}
-
--- before the first record nothing is open, and the program's array of zeros is a record of zeros
-pub at_first : state_in none (replicate 87 0) ≡ unopened
-unfolding sixteen branch_of blank
-at_first = refl
 
 module _ (s : State) (nodes table answer : List ℕ) where
   -- "15 no history open, tags 2 to 8"
@@ -35,7 +27,7 @@ module _ (s : State) (nodes table answer : List ℕ) where
     abbrev shape : Shape
     shape = record { k = k; c = c; n = n }
 
-    abbrev said : Refusal
+    abbrev said : Reply
     said = open_refusal start attributes shape (length nodes) (length table)
 
     -- "refused, it changes nothing"

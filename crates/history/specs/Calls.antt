@@ -4,8 +4,7 @@ use Rattle.feed.specs.declared.Record.{Record}
 use Rattle.demands.specs.Runs as R
 use Rattle.demands.specs.Runs.{says, step}
 use Rattle.demands.specs.Feeds.{call_of}
-use Rattle.history.specs.declared.step.Shown.{Shown}
-use Rattle.history.specs.declared.step.Shown.TheVariants.{Said, One, All}
+use Rattle.history.specs.Step.{Shown, Said, One, All}
 use Rattle.history.specs.Step.{State, Carried, carried}
 
 abbrev pub state_of : State → List ℕ → List ℕ → List ℕ → R.State

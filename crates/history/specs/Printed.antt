@@ -1,7 +1,8 @@
 -- What the program prints of a feed: what each record is answered, one after the other.
-use Rattle.std.specs.Prelude.{ℕ, zero, suc, ◌+◌, List, [], ◌++◌, length}
+use Rattle.std.specs.Prelude.{ℕ, zero, suc, ◌+◌, List, [], ◌++◌, length, Option, Some, None, Result, Ok, Err}
+use Rattle.record.specs.declared.Refusal.{Refusal}
+use Rattle.feed.specs.declared.Record.{Record}
 use Rattle.feed.specs.declared.Reading.{Reading}
-use Rattle.feed.specs.declared.Reading.TheVariants.{End, Read, Refused}
 use Rattle.feed.specs.Feed.{reading_at}
 use Rattle.history.specs.Step.{State, Carried, carried}
 use Rattle.history.specs.Text.{said, shown}
@@ -23,11 +24,15 @@ held_in x = held x.done.state x.nodes x.table x.answer
 abbrev pub answered : ℕ → Carried → List ℕ
 answered i x = shown i x.done.shown x.done.state.history.attributes x.answer
 
+-- of what was read as number i, and of what then follows
+abbrev pub before : ℕ → Held → Result Record Refusal → (Held → List ℕ) → List ℕ
+before i h (Err what) next = said i (Err what) ++ next h
+before i h (Ok r) next = let x = carried r h.state h.nodes h.table h.answer in answered i x ++ next (held_in x)
+
 -- of what is read at a place as number i, and of what then follows from the next
-abbrev pub go_on : ℕ → Held → Reading → (ℕ → Held → List ℕ) → List ℕ
-go_on i h End next = []
-go_on i h (Refused what p) next = said i what ++ next p h
-go_on i h (Read r p) next = let x = carried r h.state h.nodes h.table h.answer in answered i x ++ next p (held_in x)
+abbrev pub go_on : ℕ → Held → Option Reading → (ℕ → Held → List ℕ) → List ℕ
+go_on i h None next = []
+go_on i h (Some x) next = before i h x.what (next x.next)
 
 -- from place p and number i on, in no more than n readings
 unfoldable pub printed_from : ℕ → List ℕ → ℕ → ℕ → Held → List ℕ

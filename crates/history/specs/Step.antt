@@ -1,27 +1,28 @@
 -- One record of a feed. Document 01, "The feed and the program": which call or question a record asks for, and what it leaves.
-use Rattle.std.specs.Prelude.{ℕ, ◌*◌, ◌≤◌, Bool, true, false, cond, ◌||◌, ◌≡◌, List, length}
+use Rattle.std.specs.Prelude.{ℕ, ◌*◌, ◌≤◌, Bool, true, false, cond, ◌||◌, ◌≡◌, List, length, Option, None, Some}
 use Rattle.layout.specs.Layout.{entry_size}
-use Rattle.layout.specs.declared.Shape.{Shape}
-use Rattle.record.specs.Record.{History, record_of}
-use Rattle.record.specs.declared.Refusal.{Refusal}
-use Rattle.record.specs.declared.Refusal.TheVariants.{Nothing, NotOpen}
-use Rattle.record.specs.Refusals.{accepted}
+use Rattle.record.specs.declared.History.{History}
+use Rattle.record.specs.Refusals.{Reply, Nothing, NotOpen, accepted}
 use Rattle.transient.specs.declared.Change.TheVariants as Change
 use Rattle.feed.specs.declared.Record.{Record}
-use Rattle.feed.specs.declared.Record.TheVariants.{Open, Set, Remove, Increment, Add, Finish, Single, Full}
+use Rattle.feed.specs.declared.Record.TheVariants.{Open, Set, Remove, Increment, Add, Finish, Single as Asked, Full}
 use Rattle.calls.specs.Outcome.{Answer, Outcome}
 use Rattle.calls.specs.Open.{blank, open_of}
 use Rattle.calls.specs.Change.{change_of}
 use Rattle.calls.specs.Add.{add_of}
 use Rattle.calls.specs.Finish.{finish_of}
-use Rattle.questions.specs.Single.{single_of}
-use Rattle.full_question.specs.Full.{full_of, full_written}
-use Rattle.history.specs.declared.step.State as Code
-use Rattle.history.specs.declared.step.Shown.{Shown}
-use Rattle.history.specs.declared.step.Shown.TheVariants.{Said, One, All}
-use Rattle.history.specs.declared.step.Done as Coded
+use Rattle.questions.specs.Single.{Single, said, single_of}
+use Rattle.full_question.specs.Full.{Full as Whole, said_all, full_of, full_written}
+use Rattle.history.specs.declared.step.Shown as Code
+use Rattle.history.specs.declared.step.Shown.TheVariants as C
 
 -- ═══ What a record leaves ═══
+
+-- what there is to show of an answer
+pub data Shown : Type 0 where
+  Said : Reply → Shown
+  One : Single → Shown
+  All : Whole → Shown
 
 -- the history, once an opening was accepted
 pub record State : Type 0 where
@@ -46,28 +47,7 @@ leaving d nodes table answer = record { done = d; nodes = nodes; table = table; 
 abbrev pub done : State → Shown → Done
 done s x = record { state = s; shown = x }
 
--- ═══ As the program keeps it: the shape beside the record's array ═══
-
-abbrev pub state_in : Code.State → List ℕ → State
-state_in s w = record { opened = s.opened; history = record_of s.shape w }
-
-abbrev pub done_in : Coded.Done → List ℕ → Done
-done_in d w = done (state_in d.state w) d.shown
-
-abbrev pub none : Code.State
-none = record { opened = false; shape = record { k = 0; c = 0; n = 0 } }
-
-abbrev pub open_as : Shape → Code.State
-open_as s = record { opened = true; shape = s }
-
-abbrev pub said_of : Code.State → Refusal → Coded.Done
-said_of s r = record { state = s; shown = Said r }
-
--- the promise: what is left is what the definition says
-abbrev pub Leaves : Coded.Done → List ℕ → List ℕ → List ℕ → List ℕ → Carried → Type 0
-Leaves d w nodes table answer x = (length w ≡ 87) × (leaving (done_in d w) nodes table answer ≡ x)
-
--- ═══ What each answer leaves open ═══
+-- ═══ As the program keeps it: the history that is open, if one is ═══
 
 -- before the first record nothing is open
 abbrev pub unopened : State
@@ -75,6 +55,21 @@ unopened = record { opened = false; history = blank }
 
 abbrev pub holding : History → State
 holding h = record { opened = true; history = h }
+
+abbrev pub state_in : Option History → State
+state_in None = unopened
+state_in (Some h) = holding h
+
+abbrev pub shown_in : Code.Shown → Shown
+shown_in (C.Said r) = Said r
+shown_in (C.One a) = One (said a)
+shown_in (C.All a) = All (said_all a)
+
+-- the promise: what is left is what the definition says
+abbrev pub Leaves : Code.Shown → Option History → List ℕ → List ℕ → List ℕ → Carried → Type 0
+Leaves x current nodes table answer y = leaving (done (state_in current) (shown_in x)) nodes table answer ≡ y
+
+-- ═══ What each answer leaves open ═══
 
 -- a call's record and its answer number
 abbrev pub done_by : Answer → Done
@@ -107,7 +102,7 @@ called Add s nodes table answer = after (add_of s.history nodes table) answer
 -- "6 finish: t."
 called (Finish t) s nodes table answer = after (finish_of s.history t nodes table) answer
 -- "7 single: t, quark.": a question changes no history
-called (Single t q) s nodes table answer = leaving (done s (One (single_of s.history t q nodes table))) nodes table answer
+called (Asked t q) s nodes table answer = leaving (done s (One (single_of s.history t q nodes table))) nodes table answer
 -- "8 full: t."
 called (Full t) s nodes table answer = leaving (done s (All (full_of s.history t nodes table (length answer)))) nodes table (full_written s.history t nodes table answer)
 
@@ -119,7 +114,7 @@ opens (Remove t q) = false
 opens (Increment t q) = false
 opens Add = false
 opens (Finish t) = false
-opens (Single t q) = false
+opens (Asked t q) = false
 opens (Full t) = false
 
 -- "15 no history open, tags 2 to 8": such a record changes nothing

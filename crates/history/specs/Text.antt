@@ -3,12 +3,10 @@ use Rattle.std.specs.Prelude.{ℕ, zero, suc, ◌*◌, ℤ, cond, List, [], ◌�
 use Rattle.std.specs.Fmt.{signed_decimal}
 use Rattle.layout.specs.Layout.{entry_size, read_entry}
 use Rattle.layout.specs.declared.Entry.{Entry}
-use Rattle.record.specs.Refusals.{accepted, number_of}
-use Rattle.record.specs.declared.Refusal.{Refusal}
-use Rattle.questions.specs.declared.Single.{Single}
-use Rattle.full_question.specs.declared.Full.{Full}
-use Rattle.history.specs.declared.step.Shown.{Shown}
-use Rattle.history.specs.declared.step.Shown.TheVariants.{Said, One, All}
+use Rattle.record.specs.Refusals.{accepted, number_of, Reply}
+use Rattle.questions.specs.Single.{Single}
+use Rattle.full_question.specs.Full.{Full}
+use Rattle.history.specs.Step.{Shown, Said, One, All}
 
 -- a space, and the number
 abbrev pub number : ℕ → List ℕ
@@ -24,10 +22,10 @@ newline = 10 ∷ []
 unfoldable pub state : Entry → List ℕ
 state e = number e.start ++ number e.end ++ number e.kind ++ signed_number e.value
 
-abbrev pub answer_number : ℕ → Refusal → List ℕ
+abbrev pub answer_number : ℕ → Reply → List ℕ
 answer_number i r = decimal i ++ number (number_of r)
 
-abbrev pub said : ℕ → Refusal → List ℕ
+abbrev pub said : ℕ → Reply → List ℕ
 said i r = answer_number i r ++ newline
 
 -- "Accepted single adds start, end, kind, value, nodes entered."

@@ -6,14 +6,13 @@ mod print; // print.rt: what a record is answered, as text
 
 ghost use Rattle.std.specs.Prelude.{◌≡◌, ℕ, ◌≤◌, ◌<◌, length, take, IfOk, OnOk, OnErr};
 ghost use Rattle.std.specs.Io.KnownBytes.{Consumes, IsAtEnd, Appends};
-ghost use Rattle.history.specs.declared.step.Done.{Done};
-ghost use Rattle.history.specs.Step.{Leaves, state_in, none, carried};
+ghost use Rattle.history.specs.Step.{state_in, unopened, carried};
 ghost use Rattle.history.specs.Printed.{held, held_in, answered, printed};
 
-use feed::{Reading, Record};
+use feed::{Feed, Record};
+use record::History;
 use std::io;
 use std::io::{Read, Write};
-use step::State;
 
 // Reads until buf is full or the input ends, and returns how many bytes it put at the start of buf.
 fn read_full<R: Read>(input: &mut R, buf: &mut [u8]) -> io::Result<usize>
@@ -33,65 +32,60 @@ fn read_full<R: Read>(input: &mut R, buf: &mut [u8]) -> io::Result<usize>
     Ok(done)
 }
 
+// Those of the history that is open.
+#[tactic(auto, unfolding(calls::specs::Open::blank))]
+fn attributes(current: &Option<History>) -> u64
+    ensures { result ≡ (state_in current.now).history.attributes }
+{
+    match current {
+        Some(h) => h.attributes,
+        None => 0,
+    }
+}
+
 // One record, carried out and answered.
 fn turn<W: Write>(
     out: &mut W,
-    i: u64,
+    i: usize,
     r: Record,
-    s: State,
-    h: &mut [u64; 87],
+    current: &mut Option<History>,
     nodes: &mut [u8],
     table: &mut [u8],
     answer: &mut [u8],
-) -> io::Result<State>
+) -> io::Result<()>
     ensures printed { OnOk result (Appends (W.contents out.old) (W.contents out.new)
-        (answered i (carried r (state_in s h.old) nodes.old table.old answer.old))) }
-    ensures left { IfOk result (λ t. held (state_in t h.new) nodes.new table.new answer.new
-        ≡ held_in (carried r (state_in s h.old) nodes.old table.old answer.old)) }
-    ensures unprinted { OnErr result ((d : Done) × Leaves d h.new nodes.new table.new answer.new
-        (carried r (state_in s h.old) nodes.old table.old answer.old)) }
+        (answered i (carried r (state_in current.old) nodes.old table.old answer.old))) }
+    ensures left { held (state_in current.new) nodes.new table.new answer.new
+        ≡ held_in (carried r (state_in current.old) nodes.old table.old answer.old) }
 {
-    let d = step::carry_out(r, s, h, nodes, table, answer);
-    print::done(out, i, d, h[record::ATTRIBUTES], answer)?;
-    Ok(d.state)
+    let x = step::carry_out(r, current, nodes, table, answer);
+    print::shown(out, i, x, attributes(current), answer)
 }
 
-// The records of a feed one after the other. Each place is past the last, so the feed ends.
+// The records of a feed one after the other.
 fn run<W: Write>(
     out: &mut W,
     bytes: &[u8],
-    h: &mut [u64; 87],
     nodes: &mut [u8],
     table: &mut [u8],
     answer: &mut [u8],
 ) -> io::Result<()>
     ensures { OnOk result (Appends (W.contents out.old) (W.contents out.new)
-        (printed bytes.now (held (state_in none h.old) nodes.old table.old answer.old))) }
+        (printed bytes.now (held unopened nodes.old table.old answer.old))) }
 {
-    let mut s = step::unopened();
-    let mut place = 0;
-    let mut i: u64 = 0;
-    loop {
-        let read = feed::read_at(bytes, place);
-        match read {
-            Reading::End => return Ok(()),
-            Reading::Refused(what, next) => {
-                print::said(out, i, what)?;
-                place = next;
-            }
-            Reading::Read(r, next) => {
-                s = turn(out, i, r, s, h, nodes, table, answer)?;
-                place = next;
-            }
+    let mut current = None;
+    for (i, what) in Feed::new(bytes).enumerate() {
+        match what {
+            Ok(r) => turn(out, i, r, &mut current, nodes, table, answer)?,
+            Err(refusal) => print::said(out, i, Err(refusal))?,
         }
-        i += 1;
     }
+    Ok(())
 }
 
 // "with 32,768 node bytes and 64 table entries"; one byte more than the longest feed is read, to tell a longer one.
 fn main(rt: HostRuntime) -> io::Result<()> {
     let mut bytes = [0u8; 65537];
-    let mut h = [0u64; 87];
     let mut nodes = [0u8; 32768];
     let mut table = [0u8; 2048];
     let mut answer = [0u8; 2048];
@@ -99,7 +93,6 @@ fn main(rt: HostRuntime) -> io::Result<()> {
     run(
         &mut rt.stdout(),
         &bytes[..n],
-        &mut h,
         &mut nodes,
         &mut table,
         &mut answer,

@@ -1,29 +1,26 @@
 // What a record is answered, as text: "Each line: record number from 0, answer number." Plain decimal, one space between, a newline at the end.
-ghost use Rattle.std.specs.Prelude.{◌≡◌, ◌*◌, ◌≤◌, length, OnOk};
+ghost use Rattle.std.specs.Prelude.{◌≡◌, ◌*◌, ◌≤◌, ◌∷◌, length, IfSome, OnOk};
 ghost use Rattle.std.specs.Io.KnownBytes.{Appends};
 ghost use Rattle.layout.specs.Layout.{entry_size};
-ghost use Rattle.record.specs.declared.Refusal.TheVariants.{Nothing};
-ghost use Rattle.history.specs.Step.{EntriesOf};
-ghost use Rattle.history.specs.Text.{number, signed_number, newline, state, answer_number, said, single, attribute, attributes, full, shown};
+ghost use Rattle.record.specs.Refusals.{Nothing};
+ghost use Rattle.questions.specs.Single.{said as said_single};
+ghost use Rattle.full_question.specs.Full.{said_all};
+ghost use Rattle.history.specs.Step.{EntriesOf, shown_in};
+ghost use Rattle.history.specs.Text.{newline, state, answer_number, said, single, attribute, attributes, full, shown};
 
-use crate::step::{Done, Shown};
-use full_question::Full;
+use crate::step::Shown;
 use layout::Entry;
-use questions::Single;
+use questions::Answer;
 use record::Refusal;
+use std::fmt::Display;
 use std::io;
 use std::io::Write;
 
-fn number<W: Write>(out: &mut W, x: u64) -> io::Result<()>
-    ensures { OnOk result (Appends (W.contents out.old) (W.contents out.new) (number x)) }
+// A space, and the number, of either sign.
+fn number<W: Write, N: Display + Drop>(out: &mut W, x: N) -> io::Result<()>
+    ensures { IfSome (N.output x) (λ text. OnOk result (Appends (W.contents out.old) (W.contents out.new) (32 ∷ text))) }
 {
     write!(out, " {x}")
-}
-
-fn signed_number<W: Write>(out: &mut W, v: i64) -> io::Result<()>
-    ensures { OnOk result (Appends (W.contents out.old) (W.contents out.new) (signed_number v)) }
-{
-    write!(out, " {v}")
 }
 
 fn newline<W: Write>(out: &mut W) -> io::Result<()>
@@ -39,18 +36,18 @@ fn state<W: Write>(out: &mut W, e: Entry) -> io::Result<()>
 {
     number(out, e.start)?;
     number(out, e.end)?;
-    number(out, e.kind as u64)?;
-    signed_number(out, e.value)
+    number(out, e.kind)?;
+    number(out, e.value)
 }
 
-fn answer_number<W: Write>(out: &mut W, i: u64, r: Refusal) -> io::Result<()>
+fn answer_number<W: Write>(out: &mut W, i: usize, r: Result<(), Refusal>) -> io::Result<()>
     ensures { OnOk result (Appends (W.contents out.old) (W.contents out.new) (answer_number i r)) }
 {
     write!(out, "{i}")?;
-    number(out, record::number(r) as u64)
+    number(out, record::number(r))
 }
 
-pub fn said<W: Write>(out: &mut W, i: u64, r: Refusal) -> io::Result<()>
+pub fn said<W: Write>(out: &mut W, i: usize, r: Result<(), Refusal>) -> io::Result<()>
     ensures { OnOk result (Appends (W.contents out.old) (W.contents out.new) (said i r)) }
 {
     answer_number(out, i, r)?;
@@ -58,18 +55,19 @@ pub fn said<W: Write>(out: &mut W, i: u64, r: Refusal) -> io::Result<()>
 }
 
 // "Accepted single adds start, end, kind, value, nodes entered."
-#[tactic(auto, unfolding(crate::specs::Text::single))]
-fn single<W: Write>(out: &mut W, i: u64, s: Single) -> io::Result<()>
-    ensures { OnOk result (Appends (W.contents out.old) (W.contents out.new) (single i s)) }
+#[tactic(auto, unfolding(crate::specs::Text::single, questions::specs::Single::said, questions::specs::Single::refused_single))]
+fn single<W: Write>(out: &mut W, i: usize, s: Result<Answer, Refusal>) -> io::Result<()>
+    ensures { OnOk result (Appends (W.contents out.old) (W.contents out.new) (single i (said_single s))) }
 {
-    let r = s.refusal;
-    answer_number(out, i, r)?;
-    let Refusal::Nothing = r else {
-        return newline(out);
-    };
-    state(out, s.entry)?;
-    number(out, s.nodes as u64)?;
-    newline(out)
+    match s {
+        Err(refusal) => said(out, i, Err(refusal)),
+        Ok(a) => {
+            answer_number(out, i, Ok(()))?;
+            state(out, a.entry)?;
+            number(out, a.nodes)?;
+            newline(out)
+        }
+    }
 }
 
 // "a line per attribute: `=`, quark, start, end, kind, value"
@@ -87,41 +85,42 @@ fn attributes<W: Write>(out: &mut W, n: u64, answer: &[u8]) -> io::Result<()>
     requires { n * entry_size ≤ length answer.now }
     ensures { OnOk result (Appends (W.contents out.old) (W.contents out.new) (attributes n answer.now)) }
 {
-    let mut q: u64 = 0;
-    while q < n {
-        attribute(
-            out,
-            q,
-            layout::read_entry(answer, q as usize * layout::ENTRY),
-        )?;
-        q += 1;
+    for q in 0..n {
+        let entry = layout::read_entry(answer, q as usize * layout::ENTRY);
+        attribute(out, q, entry)?;
     }
     Ok(())
 }
 
 // "Accepted full adds nodes entered, then a line per attribute"
-#[tactic(auto, unfolding(crate::specs::Text::full))]
-fn full<W: Write>(out: &mut W, i: u64, f: Full, n: u64, answer: &[u8]) -> io::Result<()>
-    requires { f.refusal ≡ Nothing → n * entry_size ≤ length answer.now }
-    ensures { OnOk result (Appends (W.contents out.old) (W.contents out.new) (full i f n answer.now)) }
+#[tactic(auto, unfolding(crate::specs::Text::full, full_question::specs::Full::said_all, full_question::specs::Full::refused_full))]
+fn full<W: Write>(
+    out: &mut W,
+    i: usize,
+    f: Result<u32, Refusal>,
+    n: u64,
+    answer: &[u8],
+) -> io::Result<()>
+    requires { (said_all f).refusal ≡ Nothing → n * entry_size ≤ length answer.now }
+    ensures { OnOk result (Appends (W.contents out.old) (W.contents out.new) (full i (said_all f) n answer.now)) }
 {
-    let r = f.refusal;
-    answer_number(out, i, r)?;
-    let Refusal::Nothing = r else {
-        return newline(out);
-    };
-    number(out, f.nodes as u64)?;
-    newline(out)?;
-    attributes(out, n, answer)
+    match f {
+        Err(refusal) => said(out, i, Err(refusal)),
+        Ok(entered) => {
+            answer_number(out, i, Ok(()))?;
+            number(out, entered)?;
+            newline(out)?;
+            attributes(out, n, answer)
+        }
+    }
 }
 
-#[tactic(auto, unfolding(crate::specs::Text::shown))]
-pub fn done<W: Write>(out: &mut W, i: u64, d: Done, n: u64, answer: &[u8]) -> io::Result<()>
-    requires { EntriesOf d.shown n (length answer.now) }
-    ensures { OnOk result (Appends (W.contents out.old) (W.contents out.new) (shown i d.shown n answer.now)) }
+#[tactic(auto, unfolding(crate::specs::Text::shown, crate::specs::Step::EntriesOf))]
+pub fn shown<W: Write>(out: &mut W, i: usize, x: Shown, n: u64, answer: &[u8]) -> io::Result<()>
+    requires { EntriesOf (shown_in x) n (length answer.now) }
+    ensures { OnOk result (Appends (W.contents out.old) (W.contents out.new) (shown i (shown_in x) n answer.now)) }
 {
-    let shown = d.shown;
-    match shown {
+    match x {
         Shown::Said(r) => said(out, i, r),
         Shown::One(s) => single(out, i, s),
         Shown::All(f) => full(out, i, f, n, answer),

@@ -1,159 +1,86 @@
 // One record of a feed carried out on the history that is open.
-ghost use Rattle.std.specs.Prelude.{◌≡◌, cond, length};
-ghost use Rattle.record.specs.Refusals.{accepted};
-ghost use Rattle.history.specs.Step.{Leaves, state_in, none, open_as, said_of, opens, called, carried};
+ghost use Rattle.std.specs.Prelude.{◌≡◌, List, ℕ, false};
+ghost use Rattle.calls.specs.Open.{open_of};
+ghost use Rattle.history.specs.Step.{Leaves, state_in, holding, after_open, opens, called, carried};
 
+use calls::{adding, changing, opening};
 use feed::Record;
-use full_question::Full;
 use layout::Shape;
-use questions::Single;
-use record::Refusal;
+use questions::Answer;
+use record::{History, Refusal};
 
-// Whether a history is open, and its shape; its record lies in an array beside this.
-#[derive(Clone, Copy)]
-pub struct State {
-    pub opened: bool,
-    pub shape: Shape,
-}
-
-// What there is to show of an answer.
+// What there is to show of an answer: what a call said, a single question's entry, or how many nodes a full question entered.
 #[derive(Clone, Copy)]
 pub enum Shown {
-    Said(Refusal),
-    One(Single),
-    All(Full),
-}
-
-#[derive(Clone, Copy)]
-pub struct Done {
-    pub state: State,
-    pub shown: Shown,
-}
-
-// Nothing is open.
-pub fn unopened() -> State
-    ensures { result ≡ none }
-{
-    State {
-        opened: false,
-        shape: Shape { k: 0, c: 0, n: 0 },
-    }
-}
-
-// The history of this shape is open, whatever was answered.
-fn after(shape: Shape, said: Refusal) -> Done
-    ensures { result ≡ said_of (open_as shape) said }
-{
-    Done {
-        state: State {
-            opened: true,
-            shape: shape,
-        },
-        shown: Shown::Said(said),
-    }
+    Said(Result<(), Refusal>),
+    One(Result<Answer, Refusal>),
+    All(Result<u32, Refusal>),
 }
 
 // "A second open starts anew; refused, it changes nothing."
-fn after_open(s: State, shape: Shape, what: Refusal) -> Done
-    ensures { result ≡ cond (accepted what) (said_of (open_as shape) what) (said_of s what) }
-{
-    let Refusal::Nothing = what else {
-        return Done {
-            state: s,
-            shown: Shown::Said(what),
-        };
-    };
-    after(shape, what)
-}
-
-#[tactic(auto, unfolding(crate::specs::Step::opens))]
-fn opens(r: Record) -> bool
-    ensures { result ≡ opens r }
-{
-    if let Record::Open {
-        start: _,
-        attributes: _,
-        k: _,
-        c: _,
-        n: _,
-    } = r
-    {
-        true
-    } else {
-        false
-    }
-}
-
-// What a record does that is not answered 15.
-fn call(
-    r: Record,
-    s: State,
-    h: &mut [u64; 87],
+fn begin(
+    current: &mut Option<History>,
+    start: u64,
+    attributes: u32,
+    shape: Shape,
     nodes: &mut [u8],
     table: &mut [u8],
-    answer: &mut [u8],
-) -> Done
-    requires { length h.old ≡ 87 }
-    ensures { Leaves result h.new nodes.new table.new answer.new (called r (state_in s h.old) nodes.old table.old answer.old) }
+) -> Shown
+    ensures { (answer : List ℕ) → Leaves result current.new nodes.new table.new answer (after_open (state_in current.old) (open_of start attributes shape nodes.old table.old) answer) }
 {
-    let shape = s.shape;
+    let mut h = History::default();
+    let opened = opening::open(start, attributes, shape, &mut h, nodes, table);
+    if opened.is_ok() {
+        *current = Some(h);
+    }
+    Shown::Said(opened)
+}
+
+// What a record that opens nothing does on the history that is open.
+fn call(r: Record, h: &mut History, nodes: &mut [u8], table: &mut [u8], answer: &mut [u8]) -> Shown
+    requires { opens r ≡ false }
+    ensures { Leaves result (Some h.new) nodes.new table.new answer.new (called r (holding h.old) nodes.old table.old answer.old) }
+{
     match r {
-        Record::Open {
-            start,
-            attributes,
-            k,
-            c,
-            n,
-        } => {
-            let new = Shape { k: k, c: c, n: n };
-            after_open(
-                s,
-                new,
-                calls::opening::open(start, attributes, new, h, nodes, table),
-            )
+        Record::Open { .. } => unreachable!(),
+        Record::Set { t, quark, value } => {
+            Shown::Said(changing::set(h, t, quark, value, nodes, table))
         }
-        Record::Set { t, quark, value } => after(
-            shape,
-            calls::changing::set(shape, h, t, quark, value, nodes, table),
-        ),
-        Record::Remove { t, quark } => after(
-            shape,
-            calls::changing::remove(shape, h, t, quark, nodes, table),
-        ),
-        Record::Increment { t, quark } => after(
-            shape,
-            calls::changing::increment(shape, h, t, quark, nodes, table),
-        ),
-        Record::Add => after(shape, calls::adding::add(shape, h, nodes, table)),
-        Record::Finish { t } => after(shape, finishing::finish(shape, h, t, nodes, table)),
-        Record::Single { t, quark } => Done {
-            state: s,
-            shown: Shown::One(questions::one::single(shape, h, t, quark, nodes, table)),
-        },
-        Record::Full { t } => Done {
-            state: s,
-            shown: Shown::All(full_question::all::full(shape, h, t, nodes, table, answer)),
-        },
+        Record::Remove { t, quark } => Shown::Said(changing::remove(h, t, quark, nodes, table)),
+        Record::Increment { t, quark } => {
+            Shown::Said(changing::increment(h, t, quark, nodes, table))
+        }
+        Record::Add => Shown::Said(adding::add(h, nodes, table)),
+        Record::Finish { t } => Shown::Said(finishing::finish(h, t, nodes, table)),
+        Record::Single { t, quark } => {
+            Shown::One(questions::one::single(h, t, quark, nodes, table))
+        }
+        Record::Full { t } => Shown::All(full_question::all::full(h, t, nodes, table, answer)),
     }
 }
 
 // "15 no history open, tags 2 to 8": tested here, behind what the reader refuses and before anything that a call tests.
 pub fn carry_out(
     r: Record,
-    s: State,
-    h: &mut [u64; 87],
+    current: &mut Option<History>,
     nodes: &mut [u8],
     table: &mut [u8],
     answer: &mut [u8],
-) -> Done
-    ensures { Leaves result h.new nodes.new table.new answer.new (carried r (state_in s h.old) nodes.old table.old answer.old) }
+) -> Shown
+    ensures { Leaves result current.new nodes.new table.new answer.new (carried r (state_in current.old) nodes.old table.old answer.old) }
 {
-    let all = record::sound::entire(h); // for the proof alone
-    if !(opens(r) | s.opened) {
-        return Done {
-            state: s,
-            shown: Shown::Said(Refusal::NotOpen),
-        };
+    if let Record::Open {
+        start,
+        attributes,
+        k,
+        c,
+        n,
+    } = r
+    {
+        return begin(current, start, attributes, Shape { k, c, n }, nodes, table);
     }
-    call(r, s, h, nodes, table, answer)
+    match current {
+        None => Shown::Said(Err(Refusal::NotOpen)),
+        Some(h) => call(r, h, nodes, table, answer),
+    }
 }

@@ -6,13 +6,12 @@ use native.Mathlib.Omega.{arith}
 use native.Mathlib.Nat.{sub-zero, mul-suc}
 use lib.ListN.{length, take, replicate, length-append, length-replicate, replicate-append-replicate}
 use lib.Seq.{sets, take_at, length-take-le}
+use Rattle.std.specs.Prelude.{Option, Some, None}
 use Rattle.words.proofs.Stores.{sets_front, sets_in, sets_after, pad_more, sets_within}
 use Rattle.layout.specs.declared.Shape.{Shape}
 use Rattle.layout.specs.declared.Header.{Header}
 use Rattle.layout.specs.declared.Child.{Child}
 use Rattle.layout.specs.declared.Entry.{Entry}
-use Rattle.layout.specs.declared.First.{First}
-use Rattle.layout.specs.declared.First.TheVariants.{Nothing, OneChild}
 use Rattle.layout.specs.Layout.{header_size, child_size, entry_size, node_size, child_at, entry_at, header_bytes, child_bytes, entry_bytes, Node, spread, padded, body, encode, new_node, with_header, with_child, with_entry}
 use Rattle.layout.proofs.Parts.{length_header, length_child, length_entry}
 
@@ -122,7 +121,7 @@ module _ (s : Shape) where
 
   -- ---- a new node: a header and zeros, then its first child if it has one
 
-  new_empty : (h : Header) → header_bytes h ++ replicate (node_size s - header_size) 0 ≡ encode s (new_node h Nothing)
+  new_empty : (h : Header) → header_bytes h ++ replicate (node_size s - header_size) 0 ≡ encode s (new_node h None)
   unfolding encode body new_node node_size
   new_empty h =
       let e : child_size * s.c + entry_size * s.k ≡ header_size + child_size * s.c + entry_size * s.k - header_size = omega arith in
@@ -132,20 +131,20 @@ module _ (s : Shape) where
       ∙ replicate-append-replicate (child_size * s.c) (entry_size * s.k) 0
       ∙ ap (λ (k : ℕ). replicate {A = ℕ} k 0) e))
 
-  module _ (l l₁ : List ℕ) (size : ℕ) (h : Header) (f : First) (is : size ≡ node_size s) (p : l₁ ≡ sets l 0 (header_bytes h ++ replicate (size - header_size) 0)) where
-    empty : l₁ ≡ sets l 0 (encode s (new_node h Nothing))
+  module _ (l l₁ : List ℕ) (size : ℕ) (h : Header) (f : Option Child) (is : size ≡ node_size s) (p : l₁ ≡ sets l 0 (header_bytes h ++ replicate (size - header_size) 0)) where
+    empty : l₁ ≡ sets l 0 (encode s (new_node h None))
     empty = p ∙ ap (λ (k : ℕ). sets l 0 (header_bytes h ++ replicate (k - header_size) 0)) is ∙ ap (λ (z : List ℕ). sets l 0 z) (new_empty h)
 
-    pub node_empty : f ≡ Nothing → l₁ ≡ sets l 0 (encode s (new_node h f))
-    node_empty e = empty ∙ ap (λ (g : First). sets l 0 (encode s (new_node h g))) (sym e)
+    pub node_empty : f ≡ None → l₁ ≡ sets l 0 (encode s (new_node h f))
+    node_empty e = empty ∙ ap (λ (g : Option Child). sets l 0 (encode s (new_node h g))) (sym e)
 
-    pub node_first : (l₂ : List ℕ) (at : ℕ) (c : Child) → 1 ≤ s.c → node_size s ≤ length l → f ≡ OneChild c → at ≡ child_at 0 → l₂ ≡ sets l₁ at (child_bytes c) → l₂ ≡ sets l 0 (encode s (new_node h f))
+    pub node_first : (l₂ : List ℕ) (at : ℕ) (c : Child) → 1 ≤ s.c → node_size s ≤ length l → f ≡ Some c → at ≡ child_at 0 → l₂ ≡ sets l₁ at (child_bytes c) → l₂ ≡ sets l 0 (encode s (new_node h f))
     unfolding new_node child_at node_size
     node_first l₂ at c k room e t q =
-        let X = encode s (new_node h Nothing) in
-        let m : length X ≡ node_size s = length_encode (new_node h Nothing) in
+        let X = encode s (new_node h None) in
+        let m : length X ≡ node_size s = length_encode (new_node h None) in
         q ∙ ap (λ (j : ℕ). sets l₁ j (child_bytes c)) t
         ∙ ap (λ (z : List ℕ). sets z (child_at 0) (child_bytes c)) empty
         ∙ sets_within l 0 X (child_at 0) (child_bytes c) (omega (arith, m, room)) (omega (arith, m, k, length_child c))
-        ∙ ap (λ (z : List ℕ). sets l 0 z) (child_added (new_node h Nothing) c k)
-        ∙ ap (λ (g : First). sets l 0 (encode s (new_node h g))) (sym e)
+        ∙ ap (λ (z : List ℕ). sets l 0 z) (child_added (new_node h None) c k)
+        ∙ ap (λ (g : Option Child). sets l 0 (encode s (new_node h g))) (sym e)

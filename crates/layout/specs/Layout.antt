@@ -1,5 +1,5 @@
 -- A node's bytes. Document 01, "Node layout (little-endian)".
-use Rattle.std.specs.Prelude.{ℕ, ◌+◌, ◌*◌, ◌^◌, ◌<◌, List, [], ◌∷◌, ◌++◌, take, replicate}
+use Rattle.std.specs.Prelude.{ℕ, ◌+◌, ◌*◌, ◌^◌, ◌<◌, List, [], ◌∷◌, ◌++◌, take, replicate, Option, option_to_list}
 use Rattle.std.specs.Int.{w64}
 use Rattle.std.proofs.Common.{to_z, of_z, SFits}
 use Rattle.words.specs.Words.{le, num}
@@ -7,8 +7,6 @@ use Rattle.layout.specs.declared.Shape.{Shape}
 use Rattle.layout.specs.declared.Header.{Header}
 use Rattle.layout.specs.declared.Child.{Child}
 use Rattle.layout.specs.declared.Entry.{Entry}
-use Rattle.layout.specs.declared.First.{First}
-use Rattle.layout.specs.declared.First.TheVariants.{Nothing, OneChild}
 
 -- ═══ Where things stand ═══
 
@@ -126,13 +124,9 @@ encode s n = header_bytes n.header ++ body s n.children n.entries
 unfoldable pub encode_all : Shape → List Node → List ℕ
 encode_all s ns = spread (encode s) ns
 
--- what a new node holds
-abbrev pub first_children : First → List Child
-first_children Nothing = []
-first_children (OneChild c) = c ∷ []
-
-unfoldable pub new_node : Header → First → Node
-new_node h f = record { header = h; children = first_children f; entries = [] }
+-- what a new node holds besides its header: a new root has its first child, any other nothing
+unfoldable pub new_node : Header → Option Child → Node
+new_node h first = record { header = h; children = option_to_list first; entries = [] }
 
 -- ═══ Values that fit their fields, and so are read back as they were written ═══
 

@@ -1,13 +1,12 @@
 -- A script of calls and questions on one history: what each of them leaves, and what is said to it.
-use Rattle.std.specs.Prelude.{ℕ, zero, suc, ◌+◌, ◌*◌, ◌/◌, cond, true, List, ◌++◌, leb, ltb, eqb, length, set, replicate}
+use Rattle.std.specs.Prelude.{ℕ, zero, suc, ◌+◌, ◌*◌, ◌/◌, min, cond, true, false, List, ◌++◌, ltb, eqb, length, set, replicate}
 use Rattle.std.proofs.lemmas.List.Edits.{sets}
 use Rattle.words.specs.Words.{le}
 use Rattle.layout.specs.declared.Entry.{Entry}
 use Rattle.layout.specs.declared.Shape.{Shape}
 use Rattle.layout.specs.Layout.{entry_bytes, read_entry}
-use Rattle.record.specs.Record.{History, record_of}
-use Rattle.record.specs.declared.Refusal.{Refusal}
-use Rattle.record.specs.Refusals.{number_of}
+use Rattle.record.specs.declared.History.{History}
+use Rattle.record.specs.Refusals.{Reply, number_of}
 use Rattle.transient.specs.declared.Change.TheVariants.{Set, Remove, Increment}
 use Rattle.calls.specs.Outcome.{Outcome}
 use Rattle.calls.specs.Open.{open_on}
@@ -20,7 +19,7 @@ use Rattle.full_question.specs.Full.{full_of, full_written}
 -- ═══ One call ═══
 
 -- what is said to a call, 40 bytes
-unfoldable pub slot : Refusal → ℕ → Entry → List ℕ
+unfoldable pub slot : Reply → ℕ → Entry → List ℕ
 slot r nodes e = le 4 (number_of r) ++ (le 4 nodes ++ entry_bytes e)
 
 -- 0 set, 1 remove, 2 increment, 3 add, the rest finish
@@ -73,7 +72,7 @@ play_of (suc n) i script σ = play_of n (i + 1) script (step_of (read_entry scri
 
 -- as many as the script holds and there is room to say something to
 unfoldable pub turns : List ℕ → List ℕ → ℕ
-turns script said = cond (leb (length script / 32) (length said / 40)) (length script / 32) (length said / 40)
+turns script said = min (length script / 32) (length said / 40)
 
 unfoldable pub played : List ℕ → State → State
 played script σ = play_of (turns script σ.said) 0 script σ
@@ -91,11 +90,26 @@ pub record Measured : Type 0 where
 abbrev pub measured : ℕ → List ℕ → List ℕ → List ℕ → List ℕ → Measured
 measured number nodes table answer said = record { number = number; nodes = nodes; table = table; answer = answer; said = said }
 
--- a history is opened beside a record of zeros, and the script carried out on what the opening leaves
+-- a record of zeros, but for its shape
+unfoldable pub zeros : Shape → History
+zeros shape = record {
+  shape = shape;
+  start = 0;
+  latest = 0;
+  largest_end = 0;
+  attributes = 0;
+  used = 0;
+  low = 0;
+  top = 0;
+  finished = false;
+  branch = record { places = replicate 16 0; starts = replicate 16 0; intervals = replicate 16 0; children = replicate 16 0; last_ends = replicate 16 0 };
+}
+
+-- a history is opened beside it, and the script carried out on what the opening leaves
 unfoldable pub measure_of : (start attributes k c n : ℕ) (script nodes table answer said : List ℕ) → Measured
 measure_of start attributes k c n script nodes table answer said =
     let shape : Shape = record { k = k; c = c; n = n } in
-    let o = open_on (record_of shape (replicate 87 0)) start attributes shape nodes table in
+    let o = open_on (zeros shape) start attributes shape nodes table in
     let σ = played script (state o.answer.history o.nodes o.table answer said) in
     measured (number_of o.answer.refusal) σ.nodes σ.table σ.answer σ.said
 
@@ -111,7 +125,7 @@ finished_record start latest attributes shape used root top = record {
   low = top + 1;
   top = top;
   finished = true;
-  branch = record { places = set (replicate 16 (record { 0 = 0 })) top (record { 0 = root }); starts = replicate 16 0; intervals = replicate 16 0; children = replicate 16 0; last_ends = replicate 16 0 };
+  branch = record { places = set (replicate 16 0) top root; starts = replicate 16 0; intervals = replicate 16 0; children = replicate 16 0; last_ends = replicate 16 0 };
 }
 
 -- the script carried out on a finished history; with a root above the highest level nothing is done

@@ -12,7 +12,7 @@ use Rattle.words.specs.Words.{le}
 use Rattle.layout.specs.declared.Entry.{Entry}
 use Rattle.layout.specs.declared.Quark.{Quark}
 use Rattle.layout.specs.Layout.{entry_size, entry_bytes}
-use Rattle.record.specs.Record.{History}
+use Rattle.record.specs.declared.History.{History}
 use Rattle.record.specs.Refusals.{accepted}
 use Rattle.record.specs.Levels.{place_at}
 use Rattle.record.specs.Sound.{last_time, shape_allowed, numbers_sound, branch_sound, sound, long_enough}

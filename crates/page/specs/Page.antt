@@ -1,11 +1,9 @@
--- The exported questions on a finished history: document 01, "For the page server".
+-- The exported questions on a finished history: the specification, "For the page server".
 use Rattle.std.specs.Prelude.{ℕ, ◌+◌, ◌*◌, Bool, true, cond, not, ◌||◌, List, [], ◌∷◌, ◌++◌, ltb, length}
 use Rattle.std.proofs.lemmas.List.Edits.{sets}
 use Rattle.words.specs.Words.{le}
 use Rattle.layout.specs.Layout.{entry_size, entry_bytes}
-use Rattle.record.specs.declared.Refusal.{Refusal}
-use Rattle.record.specs.declared.Refusal.TheVariants.{Short, Damaged, Outside, NoQuark}
-use Rattle.record.specs.Refusals.{first_of, accepted}
+use Rattle.record.specs.Refusals.{Reply, Short, Damaged, Outside, NoQuark, first_of, accepted}
 use Rattle.walk.specs.declared.View.{View}
 use Rattle.walk.specs.View.{view_sound, long_for, asked}
 use Rattle.walk.specs.Rules.{kept}
@@ -28,7 +26,7 @@ finished_view start latest attributes k c n used root level = record {
 
 -- "query 3 record, 2, 7, 6" before the walk: nodes and an answer of so many bytes, of which `wants` are wanted, and whether the quark is known.
 -- A finished history has no ongoing table, so its length is never asked.
-unfoldable pub head_refusal : View → ℕ → ℕ → ℕ → Bool → ℕ → Refusal
+unfoldable pub head_refusal : View → ℕ → ℕ → ℕ → Bool → ℕ → Reply
 head_refusal v nodes answer wants known t =
     first_of (
     (not (view_sound v), Damaged)
@@ -40,7 +38,7 @@ head_refusal v nodes answer wants known t =
 -- ═══ Single ═══
 
 -- "their answer needs 8 bytes more, so a single's 40"
-unfoldable pub single_refusal : View → ℕ → ℕ → List ℕ → ℕ → Refusal
+unfoldable pub single_refusal : View → ℕ → ℕ → List ℕ → ℕ → Reply
 single_refusal v t q nodes answer =
     first_of (
     (not (view_sound v), Damaged)
@@ -59,7 +57,7 @@ single_written v t q nodes b = cond (accepted (single_refusal v t q nodes (lengt
 
 -- ═══ Full ═══
 
-unfoldable pub full_refusal : View → ℕ → List ℕ → ℕ → Refusal
+unfoldable pub full_refusal : View → ℕ → List ℕ → ℕ → Reply
 full_refusal v t nodes answer =
     first_of (
     (not (view_sound v), Damaged)

@@ -3,6 +3,7 @@ use Prim.Native.Nat.{ℕ, zero, suc, ◌+◌, ◌-◌, ◌*◌, ◌≤◌, ◌<�
 use mathlib.Core.Path.{◌≡◌, refl, sym, ap, subst, ◌∙◌}
 use mathlib.Core.Bool.{Bool, true, false, cond, not, ◌&&◌}
 use mathlib.Core.List.{List}
+use native.Mathlib.Numerals.{add-one}
 use native.Mathlib.Omega.{arith}
 use lib.Dec.{eqb}
 use lib.ListN.{length}
@@ -22,14 +23,6 @@ use Rattle.walk.proofs.Walks.{step_keeps, root_inside}
 
 -- ---- one entry
 
-pub more_first : (s p : ℕ) → s ≡ 0 → p + 1 ≡ more s p
-unfolding more
-more_first s p e = rw (eq-eqb s 0 e)
-
-pub more_many : (s p : ℕ) → (s ≡ 0 → ⊥) → many ≡ more s p
-unfolding more
-more_many s p e = rw (ne_eqb s 0 e)
-
 module _ (q t p : ℕ) (e : Entry) (s r : ℕ) where
   pub noted_other : (e.quark.0 ≡ q → ⊥) → r ≡ s → r ≡ noted q t p e s
   unfolding noted
@@ -47,12 +40,12 @@ module _ (q t p : ℕ) (e : Entry) (s r : ℕ) where
 -- ---- a node's entries
 
 module _ (l : List ℕ) (q t p n i s : ℕ) where
-  pub look_turn : (e : Entry) (r : ℕ) → e ≡ read_entry l p → r ≡ noted q t p e s → i < n → look l q t p (n - i) s ≡ look l q t (p + entry_size) (n - (i + 1)) r
+  pub look_turn : (e : Entry) (r : ℕ) → e ≡ read_entry l p → r ≡ noted q t p e s → i < n → (next : ℕ) → p + entry_size ≡ next → look l q t p (n - i) s ≡ look l q t next (n - (i + 1)) r
   unfolding look
-  look_turn e r is gives lt =
+  look_turn e r is gives lt next to =
       let z : n - i ≡ suc (n - (i + 1)) = omega arith in
       let y : noted q t p (read_entry l p) s ≡ r = ap (λ (x : Entry). noted q t p x s) (sym is) ∙ sym gives in
-      ap (λ (k : ℕ). look l q t p k s) z ∙ ap (λ (x : ℕ). look l q t (p + entry_size) (n - (i + 1)) x) y
+      ap (λ (k : ℕ). look l q t p k s) z ∙ ap (λ (x : ℕ). look l q t (p + entry_size) (n - (i + 1)) x) y ∙ ap (λ (k : ℕ). look l q t k (n - (i + 1)) r) to
 
   pub look_done : n ≤ i → look l q t p (n - i) s ≡ s
   unfolding look
@@ -72,12 +65,11 @@ module _ (l : List ℕ) (v : View) (q t : ℕ) where
   found_stop zero w s e = refl
   found_stop (suc n) w s e = sym (ap (λ (b : Bool). cond b (found l v q t n (step l v t n w) (look_at l v q t n w s)) s) e)
 
-  pub found_turn : (n : ℕ) (w : Walk) (s : ℕ) → 0 < n → w.go ≡ true → found l v q t n w s ≡ found l v q t (n - 1) (step l v t (n - 1) w) (look_at l v q t (n - 1) w s)
+  pub found_turn : (n : ℕ) (w : Walk) (s : ℕ) → w.go ≡ true → found l v q t (n + 1) w s ≡ found l v q t n (step l v t n w) (look_at l v q t n w s)
   unfolding found
-  found_turn n w s some going =
-      let e : n ≡ suc (n - 1) = omega arith in
-      ap (λ (k : ℕ). found l v q t k w s) e
-      ∙ ap (λ (b : Bool). cond b (found l v q t (n - 1) (step l v t (n - 1) w) (look_at l v q t (n - 1) w s)) s) going
+  found_turn n w s going =
+      ap (λ (k : ℕ). found l v q t k w s) (add-one n)
+      ∙ ap (λ (b : Bool). cond b (found l v q t n (step l v t n w) (look_at l v q t n w s)) s) going
 
 -- ---- R7
 

@@ -2,7 +2,7 @@
 use Prim.Native.Nat.{ℕ, ◌-◌, ◌≤◌, ◌<◌}
 use mathlib.Core.Path.{◌≡◌, refl, sym, ap, ◌∙◌}
 use mathlib.Core.Bool.{Bool, true, false, cond, not}
-use mathlib.Core.List.{List}
+use mathlib.Core.List.{List, [], ◌∷◌}
 use native.Mathlib.Omega.{arith}
 use lib.Dec.{leb}
 use lib.ListN.{length}
@@ -10,20 +10,22 @@ use borrow.Author.Tests.{le-leb, lt-leb, not-true, not-false}
 use Rattle.layout.specs.declared.Entry.{Entry}
 use Rattle.layout.specs.declared.Quark.{Quark}
 use Rattle.layout.specs.Layout.{read_entry}
-use Rattle.record.specs.Record.{History}
-use Rattle.record.specs.declared.Refusal.TheVariants.{Nothing, Short, Damaged, Outside, NoQuark}
-use Rattle.record.specs.Refusals.{accepted}
-use Rattle.record.specs.Sound.{sound, long_enough}
+use Rattle.record.specs.declared.History.{History}
+use Rattle.std.specs.Prelude.{Result, Err}
+use Rattle.std.specs.Result.{IsErrAnd}
+use Rattle.record.specs.declared.Refusal.{Refusal}
+use Rattle.record.specs.Refusals.{Nothing, Short, Damaged, Outside, NoQuark, Reply, first_else, accepted}
+use Rattle.record.specs.Sound.{sound, long_enough, admitted}
 use Rattle.transient.specs.declared.Ongoing.{Ongoing}
 use Rattle.transient.specs.Transient.{ongoing_end, ongoing_at, ongoing_sound, interval}
 use Rattle.walk.specs.declared.View.{View}
-use Rattle.questions.specs.declared.Single.{Single}
-use Rattle.walk.specs.View.{view_of, long_for, asked}
+use Rattle.walk.specs.View.{view_of, asked}
 use Rattle.walk.specs.Rules.{kept}
 use Rattle.walk.specs.Walk.{walk_of}
 use Rattle.questions.specs.Found.{found_of, shown}
-use Rattle.questions.specs.Single.{refused_single, told, told_entry, walked_single, from_table, table_entry, entry_fine, single_answer, view_single, single_refusal, single_of}
-use Rattle.walk.proofs.Admitted.{long_same}
+use Rattle.questions.specs.Single.{Single, refused_single, said, told, told_entry, walked_single, from_table, table_entry, entry_fine, single_answer, view_single, single_refusal, single_of}
+use Rattle.record.proofs.Said.{errs, unadmitted, after_head}
+use Rattle.questions.specs.declared.Answer.{Answer}
 
 -- ---- the walk and R7
 
@@ -89,36 +91,34 @@ module _ (v : View) (t q : ℕ) (l table : List ℕ) (r : Single) where
 
 -- ---- the question
 
-module _ (h : History) (t : ℕ) (quark : Quark) (l table : List ℕ) (r : Single) (s : Bool) (is : s ≡ sound h) where
-  pub single_3 : not s ≡ true → r ≡ refused_single Damaged → r ≡ single_of h t quark l table
-  unfolding single_of single_refusal
-  single_3 n e = rw (← is, not-true s n) e
+module _ (h : History) (t : ℕ) (quark : Quark) (l table : List ℕ) where
+  -- what the head of every call refuses, a question refuses
+  pub single_head : (x : Result Answer Refusal) (e : Refusal) → admitted h (length l) (length table) ≡ Err e → IsErrAnd x (λ y. y ≡ e) → said x ≡ single_of h t quark l table
+  unfolding said single_of single_refusal
+  single_head x e is gives =
+      let z : single_refusal h t quark.0 l table ≡ Err e = sym (unadmitted h (length l) (length table) _ (Err e) (sym is) refl) in
+      ap said (errs x e gives) ∙ ap (λ (y : Reply). cond (accepted y) (single_answer (view_of h) t quark.0 l table) (refused_single y)) (sym z)
 
-  module _ (n : not s ≡ false) (v : View) (views : v ≡ view_of h) (b : Bool) (long : b ≡ long_for v (length l) (length table)) where
-    is_long : long_enough h (length l) (length table) ≡ b
-    is_long = long_same h (length l) (length table) ∙ ap (λ (x : View). long_for x (length l) (length table)) (sym views) ∙ sym long
+  module _ (r : Single) (is : admitted h (length l) (length table) ≡ Nothing) (v : View) (views : v ≡ view_of h) where
+    few : h.attributes ≡ v.attributes
+    unfolding view_of
+    few = sym (ap (λ (x : View). x.attributes) views)
 
-    pub single_2 : not b ≡ true → r ≡ refused_single Short → r ≡ single_of h t quark l table
+    after : (x : Reply) → first_else ((not (sound h), Damaged) ∷ (not (long_enough h (length l) (length table)), Short) ∷ []) x ≡ x
+    after x = sym (after_head h (length l) (length table) x Nothing (sym is) refl)
+
+    pub single_7 : v.attributes ≤ quark.0 → r ≡ refused_single NoQuark → r ≡ single_of h t quark l table
     unfolding single_of single_refusal
-    single_2 m e = rw (← is, not-false s n, is_long, not-true b m) e
+    single_7 le e = rw (after _, le-leb h.attributes quark.0 (omega (arith, few))) e
 
-    module _ (m : not b ≡ false) where
-      few : h.attributes ≡ v.attributes
-      unfolding view_of
-      few = sym (ap (λ (x : View). x.attributes) views)
+    module _ (lt : quark.0 < v.attributes) (a : Bool) (asks : a ≡ asked v t) where
+      is_asked : asked (view_of h) t ≡ a
+      is_asked = ap (λ (x : View). asked x t) (sym views) ∙ sym asks
 
-      pub single_7 : v.attributes ≤ quark.0 → r ≡ refused_single NoQuark → r ≡ single_of h t quark l table
+      pub single_6 : not a ≡ true → r ≡ refused_single Outside → r ≡ single_of h t quark l table
       unfolding single_of single_refusal
-      single_7 le e = rw (← is, not-false s n, is_long, not-false b m, le-leb h.attributes quark.0 (omega (arith, few))) e
+      single_6 k e = rw (after _, lt-leb h.attributes quark.0 (omega (arith, few)), is_asked, not-true a k) e
 
-      module _ (lt : quark.0 < v.attributes) (a : Bool) (asks : a ≡ asked v t) where
-        is_asked : asked (view_of h) t ≡ a
-        is_asked = ap (λ (x : View). asked x t) (sym views) ∙ sym asks
-
-        pub single_6 : not a ≡ true → r ≡ refused_single Outside → r ≡ single_of h t quark l table
-        unfolding single_of single_refusal
-        single_6 k e = rw (← is, not-false s n, is_long, not-false b m, lt-leb h.attributes quark.0 (omega (arith, few)), is_asked, not-true a k) e
-
-        pub single_view : not a ≡ false → r ≡ view_single (view_of h) t quark.0 l table → r ≡ single_of h t quark l table
-        unfolding single_of single_refusal view_single
-        single_view k e = rw (← is, not-false s n, is_long, not-false b m, lt-leb h.attributes quark.0 (omega (arith, few)), is_asked, not-false a k) e
+      pub single_view : not a ≡ false → r ≡ view_single (view_of h) t quark.0 l table → r ≡ single_of h t quark l table
+      unfolding single_of single_refusal view_single
+      single_view k e = rw (after _, lt-leb h.attributes quark.0 (omega (arith, few)), is_asked, not-false a k) e

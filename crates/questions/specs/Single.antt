@@ -1,24 +1,34 @@
--- The single question: document 01, "Questions", and its refusals in their order.
-use Rattle.std.specs.Prelude.{ℕ, ◌-◌, Bool, true, cond, not, ◌&&◌, List, [], ◌∷◌, leb, pos, length}
+-- The single question: the specification's "Questions", and its refusals in their order.
+use Rattle.std.specs.Prelude.{ℕ, ◌-◌, Bool, true, cond, not, ◌&&◌, List, [], ◌∷◌, leb, pos, length, Result, Ok, Err}
 use Rattle.layout.specs.declared.Entry.{Entry}
 use Rattle.layout.specs.declared.Quark.{Quark}
 use Rattle.layout.specs.Layout.{read_entry}
-use Rattle.record.specs.Record.{History}
+use Rattle.record.specs.declared.History.{History}
 use Rattle.record.specs.declared.Refusal.{Refusal}
-use Rattle.record.specs.declared.Refusal.TheVariants.{Nothing, Short, Damaged, Outside, NoQuark}
-use Rattle.record.specs.Refusals.{first_of, accepted}
+use Rattle.record.specs.Refusals.{Reply, Nothing, Short, Damaged, Outside, NoQuark, first_of, accepted}
 use Rattle.record.specs.Sound.{sound, long_enough}
 use Rattle.transient.specs.Transient.{ongoing_end, ongoing_at, ongoing_sound, interval}
 use Rattle.walk.specs.declared.View.{View}
-use Rattle.questions.specs.declared.Single.{Single}
+use Rattle.questions.specs.declared.Answer.{Answer}
 use Rattle.walk.specs.View.{view_of, asked}
 use Rattle.walk.specs.Rules.{kept}
 use Rattle.walk.specs.Walk.{walk_of}
 use Rattle.questions.specs.Found.{found_of, shown}
 
+-- what a single question says and answers
+pub record Single : Type 0 where
+  pub refusal : Reply
+  pub nodes : ℕ
+  pub entry : Entry
+
 -- "A refusal returns its number with all other result numbers 0"
-unfoldable pub refused_single : Refusal → Single
+unfoldable pub refused_single : Reply → Single
 refused_single r = record { refusal = r; nodes = 0; entry = record { quark = record { 0 = 0 }; kind = 0; start = 0; end = 0; value = pos 0 } }
+
+-- the same of what a function returned
+unfoldable pub said : Result Answer Refusal → Single
+said (Ok a) = record { refusal = Nothing; nodes = a.nodes; entry = a.entry }
+said (Err r) = refused_single (Err r)
 
 -- ═══ What the walk tells ═══
 
@@ -66,7 +76,7 @@ view_single v t q nodes table =
     cond (accepted r) (single_answer v t q nodes table) (refused_single r)
 
 -- "query 3 record, 2, 7, 6, 3"
-unfoldable pub single_refusal : History → ℕ → ℕ → List ℕ → List ℕ → Refusal
+unfoldable pub single_refusal : History → ℕ → ℕ → List ℕ → List ℕ → Reply
 single_refusal h t q nodes table =
     let v = view_of h in
     first_of (

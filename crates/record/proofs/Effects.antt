@@ -1,11 +1,11 @@
 -- What each move does to the entries of each level: at the levels that it sets, and at any other. Assumes nothing.
 use Prim.Native.Nat.{ℕ, ◌+◌, ◌<◌}
-use mathlib.Core.Path.{◌≡◌, refl, ap, ◌∙◌}
+use mathlib.Core.Path.{◌≡◌, refl, ◌∙◌}
 use native.Mathlib.Omega.{arith}
 use lib.ListN.{length-set}
 use lib.Seq.{get_or-set_same, get_or-set_other}
-use Rattle.layout.specs.declared.Seq.{Seq}
-use Rattle.record.specs.Record.{Branch, History}
+use Rattle.record.specs.declared.Branch.{Branch}
+use Rattle.record.specs.declared.History.{History}
 use Rattle.record.specs.Levels.{place_at, start_at, intervals_at, children_at, last_end_at}
 use Rattle.record.specs.Moves.{level_new, level_child, level_stored, level_closed, with_branch, closed, raised, made, stored}
 use Rattle.record.specs.Firm.{Long, LevelIs, SameLevel}
@@ -27,7 +27,7 @@ module _ (b : Branch) (l : ℕ) where
     pub level_new_at : Long b → l < 16 → LevelIs (level_new b l place start children last_end) l place start 0 children last_end
     unfolding level_new
     level_new_at g lt = record {
-      at_place = ap (λ (s : Seq). s.0) (get_or-set_same b.places l (record { 0 = place }) (record { 0 = 0 }) (omega (arith, g.places)));
+      at_place = get_or-set_same b.places l place 0 (omega (arith, g.places));
       at_start = get_or-set_same b.starts l start 0 (omega (arith, g.starts));
       at_intervals = get_or-set_same b.intervals l 0 0 (omega (arith, g.intervals));
       at_children = get_or-set_same b.children l children 0 (omega (arith, g.children));
@@ -37,7 +37,7 @@ module _ (b : Branch) (l : ℕ) where
     pub level_new_other : (m : ℕ) → (m ≡ l → ⊥) → SameLevel (level_new b l place start children last_end) b m
     unfolding level_new
     level_new_other m ne = record {
-      at_place = ap (λ (s : Seq). s.0) (get_or-set_other b.places l m (record { 0 = place }) (record { 0 = 0 }) ne);
+      at_place = get_or-set_other b.places l m place 0 ne;
       at_start = get_or-set_other b.starts l m start 0 ne;
       at_intervals = get_or-set_other b.intervals l m 0 0 ne;
       at_children = get_or-set_other b.children l m children 0 ne;

@@ -1,7 +1,7 @@
 -- What soundness says, as plain facts. Assumes nothing.
 use Prim.Native.Nat.{ℕ, zero, suc, ◌+◌, ◌-◌, ◌*◌, ◌/◌, ◌≤◌, ◌<◌}
-use mathlib.Core.Path.{◌≡◌, refl, sym, ◌∙◌}
-use mathlib.Core.Bool.{Bool, true, false, cond, not, ◌&&◌, ◌||◌, false≢true}
+use mathlib.Core.Path.{◌≡◌, refl, sym, ap, ◌∙◌}
+use mathlib.Core.Bool.{Bool, true, false, cond, not, ◌&&◌, ◌||◌, false≢true, false≢true}
 use mathlib.Core.Logic.{⊎_elim}
 use native.Mathlib.Nat.{eq-or-lt_of_le}
 use native.Mathlib.Omega.{arith}
@@ -9,8 +9,8 @@ use lib.Dec.{leb, eqb}
 use borrow.Author.Tests.{leb-true, ltb-true, eqb-true, eqb-false, ne_eqb, not-true, not-false}
 use Rattle.layout.specs.declared.Shape.{Shape}
 use Rattle.layout.specs.Layout.{node_size, entry_size}
-use Rattle.record.specs.Record.{History}
-use Rattle.record.specs.declared.Refusal.TheVariants.{Nothing, Damaged, Short}
+use Rattle.record.specs.declared.History.{History}
+use Rattle.record.specs.Refusals.{Nothing, Damaged, Short, accepted}
 use Rattle.record.specs.Levels.{place_at, start_at, last_end_at}
 use Rattle.record.specs.Sound.{shape_allowed, numbers_sound, all, level_sound, apart, levels_sound, starts_fall, last_end_sound, branch_sound, sound, long_enough, admitted}
 use Rattle.record.specs.Firm.{Shaped, Numbered, OpenLevel, Unfinished, Firm}
@@ -195,12 +195,16 @@ long_table h nodes table e going =
     let g = both (leb (h.shape.n * node_size h.shape) nodes) (h.finished || leb h.attributes (table / entry_size)) e in
     leb-true _ _ (either _ _ g.1 going)
 
--- a call or question that is not refused 3 or 2 at its head: the record is sound, its nodes lie in the buffer, and its attributes in the table until finish
-pub admitted_facts : (h : History) (nodes table : ℕ) → admitted h nodes table ≡ Nothing → (sound h ≡ true) × (h.shape.n * node_size h.shape ≤ nodes) × (h.finished ≡ false → h.attributes ≤ table / entry_size)
+-- a call or question that is not refused 3 or 2 at its head: the record is sound and the buffers are long enough;
+pub admitted_both : (h : History) (nodes table : ℕ) → admitted h nodes table ≡ Nothing → (sound h ≡ true) × (long_enough h nodes table ≡ true)
 unfolding admitted
-admitted_facts h nodes table = go (sound h) (long_enough h nodes table) refl refl
+admitted_both h nodes table = go (sound h) (long_enough h nodes table)
   where
-    go : (x y : Bool) → sound h ≡ x → long_enough h nodes table ≡ y → cond (not x) Damaged (cond (not y) Short Nothing) ≡ Nothing → (sound h ≡ true) × (h.shape.n * node_size h.shape ≤ nodes) × (h.finished ≡ false → h.attributes ≤ table / entry_size)
-    go true true a b e = (a, long_nodes h nodes table b, long_table h nodes table b)
-    go true false a b e = let z : ◌≡◌ {A = ℕ} 0 1 = cc in absurd (omega arith)
-    go false y a b e = let z : ◌≡◌ {A = ℕ} 0 1 = cc in absurd (omega arith)
+    go : (x y : Bool) → cond (not x) Damaged (cond (not y) Short Nothing) ≡ Nothing → (x ≡ true) × (y ≡ true)
+    go true true e = (refl, refl)
+    go true false e = absurd (false≢true (ap accepted e))
+    go false y e = absurd (false≢true (ap accepted e))
+
+-- its nodes lie in the buffer, and its attributes in the table until finish
+pub admitted_facts : (h : History) (nodes table : ℕ) → admitted h nodes table ≡ Nothing → (sound h ≡ true) × (h.shape.n * node_size h.shape ≤ nodes) × (h.finished ≡ false → h.attributes ≤ table / entry_size)
+admitted_facts h nodes table e = let f = admitted_both h nodes table e in (f.0, long_nodes h nodes table f.1, long_table h nodes table f.1)

@@ -9,8 +9,7 @@ use lib.Dec.{eqb}
 use lib.ListN.{get_or, set}
 use lib.Seq.{get_or-set_other}
 use borrow.Author.Tests.{eqb-true, eqb-false}
-use Rattle.layout.specs.declared.Seq.{Seq}
-use Rattle.record.specs.Record.{History}
+use Rattle.record.specs.declared.History.{History}
 use Rattle.record.specs.Levels.{intervals_at, children_at}
 use Rattle.record.specs.Moves.{level_new, level_child, level_stored, level_closed, with_branch, with_largest, closed, raised, made, stored, stretched, at_time, with_attribute}
 use Rattle.record.specs.Sound.{last_time}
@@ -22,11 +21,6 @@ set_most : (xs : List ℕ) (i v : ℕ) → get_or (set xs i v) i 0 ≤ v
 set_most [] i v = omega arith
 set_most (x ∷ xs) zero v = omega arith
 set_most (x ∷ xs) (suc i) v = set_most xs i v
-
-place_most : (xs : List Seq) (i v : ℕ) → (get_or (set xs i (record { 0 = v })) i (record { 0 = 0 })).0 ≤ v
-place_most [] i v = omega arith
-place_most (x ∷ xs) zero v = omega arith
-place_most (x ∷ xs) (suc i) v = place_most xs i v
 
 -- what holds at l and at every other level holds at m
 either : (m l : ℕ) (P : ℕ → Type 0) → P l → ((m ≡ l → ⊥) → P m) → P m
@@ -67,7 +61,7 @@ module _ (h : History) (f : Firm h) where
     used = omega arith;
     ordered = omega arith;
     top = omega arith;
-    placed = λ l x y. let e : l ≡ h.top + 1 = omega arith in rw e (omega (arith, place_most h.branch.places (h.top + 1) h.used));
+    placed = λ l x y. let e : l ≡ h.top + 1 = omega arith in rw e (omega (arith, set_most h.branch.places (h.top + 1) h.used));
     intervals = λ l x y. let e : l ≡ h.top + 1 = omega arith in rw e (omega (arith, set_most h.branch.intervals (h.top + 1) 0));
     children = λ l x y. let e : l ≡ h.top + 1 = omega arith in rw e (omega (arith, f.shaped.two, set_most h.branch.children (h.top + 1) 1));
     largest = f.largest;
@@ -83,9 +77,9 @@ module _ (h : History) (f : Firm h) where
     ordered = omega (arith, f.ordered);
     top = f.top;
     placed = λ m x y.
-        either m l (λ k. (get_or (set h.branch.places l (record { 0 = h.used })) k (record { 0 = 0 })).0 < h.used + 1)
-        (omega (arith, place_most h.branch.places l h.used))
-        (λ ne. rw (get_or-set_other h.branch.places l m (record { 0 = h.used }) (record { 0 = 0 }) ne) (omega (arith, f.placed m (omega arith) y)));
+        either m l (λ k. get_or (set h.branch.places l h.used) k 0 < h.used + 1)
+        (omega (arith, set_most h.branch.places l h.used))
+        (λ ne. rw (get_or-set_other h.branch.places l m h.used 0 ne) (omega (arith, f.placed m (omega arith) y)));
     intervals = λ m x y.
         either m l (λ k. get_or (set h.branch.intervals l 0) k 0 ≤ h.shape.k)
         (omega (arith, set_most h.branch.intervals l 0))

@@ -1,17 +1,14 @@
 -- The turns of the loops over levels: what is left from the level reached is the whole. Assumes nothing.
 use Prim.Native.Nat.{ℕ, suc, ◌+◌, ◌-◌, ◌≤◌, ◌<◌}
-use mathlib.Core.Path.{◌≡◌, refl, ap, sym, ◌∙◌}
+use mathlib.Core.Path.{◌≡◌, refl, sym, ◌∙◌}
 use mathlib.Core.Bool.{Bool, true, false, not}
-use mathlib.Core.List.{List}
 use native.Mathlib.Omega.{arith}
 use lib.Dec.{eqb}
-use lib.ListN.{get_or}
 use borrow.Author.Tests.{le-leb, lt-leb, eq-eqb, ne_eqb, not-true, not-false}
 use Rattle.layout.specs.declared.Shape.{Shape}
-use Rattle.record.specs.Record.{Branch, branch_of}
+use Rattle.record.specs.declared.Branch.{Branch}
 use Rattle.record.specs.Levels.{place_at, start_at}
 use Rattle.record.specs.Sound.{all, level_sound, apart, levels_sound, starts_fall}
-use Rattle.record.proofs.Lies.{place_lies, start_lies}
 
 module _ (p : ℕ → Bool) (i n : ℕ) where
   pub all_none : n ≡ 0 → all p i n ≡ true
@@ -28,23 +25,16 @@ module _ (p : ℕ → Bool) (i n : ℕ) where
 
 -- ---- starts
 
-next_start : (w : List ℕ) (l : ℕ) → l + 1 < 16 → start_at (branch_of w) (l + 1) ≡ get_or w (16 + l + 1) 0
-next_start w l lt = start_lies w (l + 1) lt ∙ ap (λ i. get_or w i 0) (omega arith)
-
-module _ (w : List ℕ) (low top level : ℕ) (so_far : starts_fall (branch_of w) level top ≡ starts_fall (branch_of w) low top) where
-  pub starts_fail : level < top → top < 16 → get_or w (16 + level) 0 < get_or w (16 + level + 1) 0 → false ≡ starts_fall (branch_of w) low top
+module _ (b : Branch) (low top level : ℕ) (so_far : starts_fall b level top ≡ starts_fall b low top) where
+  pub starts_fail : level < top → start_at b level < start_at b (level + 1) → false ≡ starts_fall b low top
   unfolding starts_fall
-  starts_fail lt small f =
-      sym (all_fails _ level (top - level) (top - (level + 1)) (omega arith) (simp (start_lies w level (omega arith), next_start w level (omega arith), lt-leb _ _ f)))
-      ∙ so_far
+  starts_fail lt f = sym (all_fails _ level (top - level) (top - (level + 1)) (omega arith) (simp (lt-leb _ _ f))) ∙ so_far
 
-  pub starts_turn : level < top → top < 16 → get_or w (16 + level + 1) 0 ≤ get_or w (16 + level) 0 → starts_fall (branch_of w) (level + 1) top ≡ starts_fall (branch_of w) low top
+  pub starts_turn : level < top → start_at b (level + 1) ≤ start_at b level → starts_fall b (level + 1) top ≡ starts_fall b low top
   unfolding starts_fall
-  starts_turn lt small f =
-      sym (all_turn _ level (top - level) (level + 1) (top - (level + 1)) refl (omega arith) (simp (start_lies w level (omega arith), next_start w level (omega arith), le-leb _ _ f)))
-      ∙ so_far
+  starts_turn lt f = sym (all_turn _ level (top - level) (level + 1) (top - (level + 1)) refl (omega arith) (simp (le-leb _ _ f))) ∙ so_far
 
-  pub starts_end : top ≤ level → true ≡ starts_fall (branch_of w) low top
+  pub starts_end : top ≤ level → true ≡ starts_fall b low top
   unfolding starts_fall
   starts_end le = sym (all_none _ level (top - level) (omega arith)) ∙ so_far
 
@@ -58,18 +48,14 @@ pub apart_begin : (b : Branch) (l top : ℕ) → apart_from b l top (l + 1) ≡ 
 unfolding apart
 apart_begin b l top = let e : top + 1 - (l + 1) ≡ top - l = omega arith in rw e
 
-module _ (w : List ℕ) (l top j : ℕ) (so_far : apart_from (branch_of w) l top j ≡ apart (branch_of w) l (top - l)) where
-  pub apart_fail : j ≤ top → l ≤ top → top < 16 → get_or w j 0 ≡ get_or w l 0 → false ≡ apart (branch_of w) l (top - l)
-  apart_fail le under small e =
-      sym (all_fails _ j (top + 1 - j) (top + 1 - (j + 1)) (omega arith) (simp (place_lies w j (omega arith), place_lies w l (omega arith), eq-eqb _ _ e)))
-      ∙ so_far
+module _ (b : Branch) (l top j : ℕ) (so_far : apart_from b l top j ≡ apart b l (top - l)) where
+  pub apart_fail : j ≤ top → place_at b j ≡ place_at b l → false ≡ apart b l (top - l)
+  apart_fail le e = sym (all_fails _ j (top + 1 - j) (top + 1 - (j + 1)) (omega arith) (simp (eq-eqb _ _ e))) ∙ so_far
 
-  pub apart_turn : j ≤ top → l ≤ top → top < 16 → (get_or w j 0 ≡ get_or w l 0 → ⊥) → apart_from (branch_of w) l top (j + 1) ≡ apart (branch_of w) l (top - l)
-  apart_turn le under small e =
-      sym (all_turn _ j (top + 1 - j) (j + 1) (top + 1 - (j + 1)) refl (omega arith) (simp (place_lies w j (omega arith), place_lies w l (omega arith), ne_eqb _ _ e)))
-      ∙ so_far
+  pub apart_turn : j ≤ top → (place_at b j ≡ place_at b l → ⊥) → apart_from b l top (j + 1) ≡ apart b l (top - l)
+  apart_turn le e = sym (all_turn _ j (top + 1 - j) (j + 1) (top + 1 - (j + 1)) refl (omega arith) (simp (ne_eqb _ _ e))) ∙ so_far
 
-  pub apart_end : top < j → true ≡ apart (branch_of w) l (top - l)
+  pub apart_end : top < j → true ≡ apart b l (top - l)
   apart_end lt = sym (all_none _ j (top + 1 - j) (omega arith)) ∙ so_far
 
 -- ---- levels

@@ -1,10 +1,10 @@
 -- The entries of the open branch, by level; and what is open.
 use Rattle.std.specs.Prelude.{ℕ, get_or}
 use Rattle.layout.specs.declared.Seq.{Seq}
-use Rattle.record.specs.Record.{Branch}
+use Rattle.record.specs.declared.Branch.{Branch}
 
 abbrev pub seq_at : Branch → ℕ → Seq
-seq_at b l = get_or b.places l (record { 0 = 0 })
+seq_at b l = record { 0 = get_or b.places l 0 }
 
 abbrev pub place_at : Branch → ℕ → ℕ
 place_at b l = (seq_at b l).0

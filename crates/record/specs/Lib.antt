@@ -1,5 +1,4 @@
 pub mod Refusals
-pub mod Record
 pub mod Levels
 pub mod Sound
 pub mod Moves

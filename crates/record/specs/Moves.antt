@@ -1,6 +1,7 @@
 -- The only ways in which a record changes. A field that is added later changes the setters below and nothing else.
-use Rattle.std.specs.Prelude.{ℕ, ◌+◌, max, true, List, get_or, set}
-use Rattle.record.specs.Record.{Branch, History}
+use Rattle.std.specs.Prelude.{ℕ, ◌+◌, max, true, set}
+use Rattle.record.specs.declared.Branch.{Branch}
+use Rattle.record.specs.declared.History.{History}
 use Rattle.record.specs.Levels.{intervals_at, children_at}
 
 -- ═══ A level's numbers: the only four ways in which they change ═══
@@ -8,7 +9,7 @@ use Rattle.record.specs.Levels.{intervals_at, children_at}
 -- a new node: "intervals, children" as its header says, no interval yet
 unfoldable pub level_new : Branch → ℕ → ℕ → ℕ → ℕ → ℕ → Branch
 level_new b l place start children last_end = record {
-  places = set b.places l (record { 0 = place });
+  places = set b.places l place;
   starts = set b.starts l start;
   intervals = set b.intervals l 0;
   children = set b.children l children;
@@ -140,11 +141,3 @@ stored h l = with_branch h h.used h.low h.top (level_stored h.branch l)
 -- "S is the largest end stored so far"
 unfoldable pub stretched : History → ℕ → History
 stretched h e = with_largest h (max h.largest_end e)
-
--- ═══ A level's numbers in the array that the record lies in ═══
-
-unfoldable pub level_set : List ℕ → ℕ → ℕ → ℕ → ℕ → ℕ → List ℕ
-level_set w l place start children last_end = set (set (set (set (set w l place) (16 + l) start) (32 + l) 0) (48 + l) children) (64 + l) last_end
-
-unfoldable pub child_set : List ℕ → ℕ → List ℕ
-child_set w l = set w (48 + l) (get_or w (48 + l) 0 + 1)

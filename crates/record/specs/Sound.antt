@@ -2,10 +2,9 @@
 use Rattle.std.specs.Prelude.{ℕ, zero, suc, ◌+◌, ◌-◌, ◌*◌, ◌/◌, Bool, true, false, cond, not, ◌&&◌, ◌||◌, [], ◌∷◌, leb, ltb, eqb}
 use Rattle.layout.specs.declared.Shape.{Shape}
 use Rattle.layout.specs.Layout.{node_size, entry_size}
-use Rattle.record.specs.Record.{Branch, History}
-use Rattle.record.specs.declared.Refusal.{Refusal}
-use Rattle.record.specs.declared.Refusal.TheVariants.{Damaged, Short}
-use Rattle.record.specs.Refusals.{first_of}
+use Rattle.record.specs.declared.Branch.{Branch}
+use Rattle.record.specs.declared.History.{History}
+use Rattle.record.specs.Refusals.{Reply, Damaged, Short, first_of}
 use Rattle.record.specs.Levels.{place_at, start_at, intervals_at, children_at, last_end_at}
 
 -- "Start and event times 0 to 2^63-1."
@@ -77,5 +76,5 @@ unfoldable pub long_enough : History → ℕ → ℕ → Bool
 long_enough h nodes table = leb (h.shape.n * node_size h.shape) nodes && (h.finished || leb h.attributes (table / entry_size))
 
 -- "3 record, 2": the head of every call and question
-unfoldable pub admitted : History → ℕ → ℕ → Refusal
+unfoldable pub admitted : History → ℕ → ℕ → Reply
 admitted h nodes table = first_of ((not (sound h), Damaged) ∷ (not (long_enough h nodes table), Short) ∷ [])

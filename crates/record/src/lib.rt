@@ -7,76 +7,62 @@ pub mod moves; // moves.rt: the only ways in which a record changes
 ghost use Rattle.std.specs.Prelude.{◌≡◌};
 ghost use Rattle.record.specs.Refusals.{number_of};
 
-// The record is an array of 87 numbers beside the history's shape. Whoever keeps a history holds both by value; a call is lent the array and
-// changes it in place. First the open branch, "one entry for each of the sixteen levels": the sixteen places, and from these indices on
-// the sixteen starts, interval counts, child counts and last-child ends.
-pub const STARTS: usize = 16;
+use layout::Shape;
 
-pub const INTERVALS: usize = 32;
-
-pub const CHILDREN: usize = 48;
-
-pub const LAST_ENDS: usize = 64;
-
-// Then the history's own numbers. The levels from low to top are open and top is the root's; once finished low is top + 1, and none is open.
-pub const START: usize = 80;
-
-pub const LATEST: usize = 81;
-
-pub const LARGEST_END: usize = 82;
-
-pub const ATTRIBUTES: usize = 83;
-
-pub const USED: usize = 84;
-
-pub const LOW: usize = 85;
-
-pub const TOP: usize = 86;
-
-// "What a call says": a name for each number of document 01's table.
-#[derive(Clone, Copy)]
-pub enum Refusal {
-    Nothing,
-    Numbers,
-    Short,
-    Damaged,
-    Finished,
-    Early,
-    Outside,
-    NoQuark,
-    TableFull,
-    Top,
-    Deep,
-    NoRoom,
-    NoTag,
-    WrongLength,
-    Cut,
-    NotOpen,
-    LongFeed,
+// "The open branch is kept in the record by value, one entry for each of the sixteen levels." Whoever keeps a history holds its record by value, and a call
+// is lent it. A place and the counts are narrower in a node: here a caller may hand in any number, and soundness tests it.
+#[derive(Clone, Copy, Debug, Default, PartialEq, Eq)]
+pub struct Branch {
+    pub places: [u64; 16],
+    pub starts: [u64; 16],
+    pub intervals: [u64; 16],
+    pub children: [u64; 16],
+    pub last_ends: [u64; 16],
 }
 
-// The paper's number of an answer.
+// The levels from low to top are open and top is the root's; once finished, low is top + 1, and none is open.
+#[derive(Clone, Copy, Debug, Default, PartialEq, Eq)]
+pub struct History {
+    pub shape: Shape,
+    pub start: u64,
+    pub latest: u64,
+    pub largest_end: u64,
+    pub attributes: u64,
+    pub used: u64,
+    pub low: u64,
+    pub top: u64,
+    pub finished: bool,
+    pub branch: Branch,
+}
+
+// "What a call says": a name for each number of the table but 0, which is `Ok`.
+#[derive(Clone, Copy, Debug, PartialEq, Eq)]
+pub enum Refusal {
+    Numbers = 1,
+    Short = 2,
+    Damaged = 3,
+    Finished = 4,
+    Early = 5,
+    Outside = 6,
+    NoQuark = 7,
+    TableFull = 8,
+    Top = 9,
+    Deep = 10,
+    NoRoom = 11,
+    NoTag = 12,
+    WrongLength = 13,
+    Cut = 14,
+    NotOpen = 15,
+    LongFeed = 16,
+}
+
+// The number of what a call said.
 #[tactic(auto, unfolding(crate::specs::Refusals::number_of))]
-pub fn number(r: Refusal) -> u32
-    ensures { result ≡ number_of r }
+pub fn number(said: Result<(), Refusal>) -> u32
+    ensures { result ≡ number_of said }
 {
-    match r {
-        Refusal::Nothing => 0,
-        Refusal::Numbers => 1,
-        Refusal::Short => 2,
-        Refusal::Damaged => 3,
-        Refusal::Finished => 4,
-        Refusal::Early => 5,
-        Refusal::Outside => 6,
-        Refusal::NoQuark => 7,
-        Refusal::TableFull => 8,
-        Refusal::Top => 9,
-        Refusal::Deep => 10,
-        Refusal::NoRoom => 11,
-        Refusal::NoTag => 12,
-        Refusal::WrongLength => 13,
-        Refusal::Cut => 14,
-        Refusal::NotOpen => 15,
-        Refusal::LongFeed => 16,
+    match said {
+        Ok(()) => 0,
+        Err(why) => why as u32,
     }
 }

@@ -1,114 +1,119 @@
-// The only ways in which a record changes. Each sets entries, so that a new number costs this file.
-ghost use Rattle.std.specs.Prelude.{◌≡◌, ◌+◌, ◌≤◌, ◌<◌, get_or, length};
-ghost use Rattle.record.specs.Record.{branch_of, Becomes, attributes_in, used_in, low_in, top_in};
+// The only ways in which a record changes. Each sets fields, so that a new number costs this file.
+ghost use Rattle.std.specs.Prelude.{◌≡◌, ◌+◌, ◌≤◌, ◌<◌};
 ghost use Rattle.record.specs.Levels.{intervals_at, children_at};
-ghost use Rattle.record.specs.Moves.{level_set, child_set, closed, raised, made, stored, stretched, at_time, with_attribute, finished_at};
+ghost use Rattle.record.specs.Moves.{level_new, level_child, level_stored, closed, raised, made, stored, stretched, at_time, with_attribute, finished_at};
 
-use crate::{
-    ATTRIBUTES, CHILDREN, INTERVALS, LARGEST_END, LAST_ENDS, LATEST, LOW, START, STARTS, TOP, USED,
-};
+use crate::{Branch, History};
 
-// ---- a level's numbers
+impl Branch {
+    // A new node's level: its place, its start and what its header says.
+    #[tactic(auto, unfolding(crate::specs::Moves::level_new))]
+    fn open(&mut self, level: u64, place: u64, start: u64, children: u64, last_end: u64)
+        requires { level < 16 }
+        ensures { self.new ≡ level_new self.old level place start children last_end }
+    {
+        let i = level as usize;
+        self.places[i] = place;
+        self.starts[i] = start;
+        self.intervals[i] = 0;
+        self.children[i] = children;
+        self.last_ends[i] = last_end;
+    }
 
-// A new node's level: its place, its start and what its header says.
-fn level_new(h: &mut [u64; 87], level: u64, place: u64, start: u64, children: u64, last_end: u64)
-    requires { level < 16 }
-    ensures { h.new ≡ level_set h.old level place start children last_end }
-{
-    let i = level as usize;
-    h[i] = place;
-    h[STARTS + i] = start;
-    h[INTERVALS + i] = 0;
-    h[CHILDREN + i] = children;
-    h[LAST_ENDS + i] = last_end;
-}
+    #[tactic(auto, unfolding(crate::specs::Moves::level_child))]
+    fn count_child(&mut self, level: u64)
+        requires { (level < 16) × (children_at self.old level < 65535) }
+        ensures { self.new ≡ level_child self.old level }
+    {
+        self.children[level as usize] += 1;
+    }
 
-fn level_child(h: &mut [u64; 87], level: u64)
-    requires { (level < 16) × (get_or h.old (48 + level) 0 < 65535) }
-    ensures { h.new ≡ child_set h.old level }
-{
-    let i = CHILDREN + level as usize;
-    h[i] = h[i] + 1;
-}
-
-// A level takes an interval.
-pub fn stored(h: &mut [u64; 87], level: u64)
-    requires { (length h.old ≡ 87) × (level < 16) × (intervals_at (branch_of h.old) level < 65535) }
-    ensures { Becomes h.old h.new (λ g. stored g level) }
-{
-    let i = INTERVALS + level as usize;
-    h[i] = h[i] + 1;
-}
-
-// ---- the record
-
-// "Closing gives the node .. the end S": the lowest level, under an open one.
-pub fn closed(h: &mut [u64; 87])
-    requires { (length h.old ≡ 87) × (low_in h.old < top_in h.old) × (top_in h.old < 16) }
-    ensures { Becomes h.old h.new closed }
-{
-    let up = h[LOW] + 1;
-    h[LAST_ENDS + up as usize] = h[LARGEST_END];
-    h[LOW] = up;
-}
-
-// "a new root is made first: one level higher, starting at the history's start, with the old root as its only child"
-pub fn raised(h: &mut [u64; 87])
-    requires { (length h.old ≡ 87) × (low_in h.old ≤ top_in h.old) × (top_in h.old < 15) × (used_in h.old < 4294967295) }
-    ensures { Becomes h.old h.new raised }
-{
-    let up = h[TOP] + 1;
-    let used = h[USED];
-    let start = h[START];
-    let end = h[LARGEST_END];
-    level_new(h, up, used, start, 1, end);
-    h[USED] = used + 1;
-    h[LOW] = up;
-    h[TOP] = up;
-}
-
-// A node of a chain: the lowest level, one above, gets a new child that starts at start.
-pub fn made(h: &mut [u64; 87], start: u64, level: u64)
-    requires { (length h.old ≡ 87) × (level < low_in h.old) × (low_in h.old ≤ top_in h.old) × (top_in h.old < 16) × (used_in h.old < 4294967295) × (children_at (branch_of h.old) (level + 1) < 65535) }
-    ensures { Becomes h.old h.new (λ g. made g start level) }
-{
-    level_child(h, level + 1);
-    let used = h[USED];
-    level_new(h, level, used, start, 0, 0);
-    h[USED] = used + 1;
-    h[LOW] = level;
-}
-
-// "S is the largest end stored so far"
-pub fn stretched(h: &mut [u64; 87], end: u64)
-    requires { length h.old ≡ 87 }
-    ensures { Becomes h.old h.new (λ g. stretched g end) }
-{
-    if h[LARGEST_END] < end {
-        h[LARGEST_END] = end;
+    #[tactic(auto, unfolding(crate::specs::Moves::level_stored))]
+    fn count_interval(&mut self, level: u64)
+        requires { (level < 16) × (intervals_at self.old level < 65535) }
+        ensures { self.new ≡ level_stored self.old level }
+    {
+        self.intervals[level as usize] += 1;
     }
 }
 
-// "a change at time t makes it t"
-pub fn at_time(h: &mut [u64; 87], t: u64)
-    requires { length h.old ≡ 87 }
-    ensures { Becomes h.old h.new (λ g. at_time g t) }
-{
-    h[LATEST] = t;
-}
+impl History {
+    // A level takes an interval.
+    #[tactic(auto, unfolding(crate::specs::Moves::stored, crate::specs::Moves::with_branch))]
+    pub fn store(&mut self, level: u64)
+        requires { (level < 16) × (intervals_at self.old.branch level < 65535) }
+        ensures { self.new ≡ stored self.old level }
+    {
+        self.branch.count_interval(level);
+    }
 
-pub fn with_attribute(h: &mut [u64; 87])
-    requires { (length h.old ≡ 87) × (attributes_in h.old < 4294967295) }
-    ensures { Becomes h.old h.new with_attribute }
-{
-    h[ATTRIBUTES] = h[ATTRIBUTES] + 1;
-}
+    // "Closing gives the node .. the end S": the lowest level, under an open one.
+    #[tactic(auto, unfolding(crate::specs::Moves::closed, crate::specs::Moves::with_branch, crate::specs::Moves::level_closed))]
+    pub fn close(&mut self)
+        requires { (self.old.low < self.old.top) × (self.old.top < 16) }
+        ensures { self.new ≡ closed self.old }
+    {
+        self.low += 1;
+        self.branch.last_ends[self.low as usize] = self.largest_end;
+    }
 
-// "closes all open nodes with end T. T becomes the latest time"
-pub fn finished(h: &mut [u64; 87], t: u64)
-    requires { (length h.old ≡ 87) × (top_in h.old < 16) }
-    ensures { Becomes h.old h.new (λ g. finished_at g t) }
-{
-    h[LATEST] = t;
-    h[LOW] = h[TOP] + 1;
+    // "a new root is made first: one level higher, starting at the history's start, with the old root as its only child"
+    #[tactic(auto, unfolding(crate::specs::Moves::raised, crate::specs::Moves::with_branch))]
+    pub fn raise(&mut self)
+        requires { (self.old.low ≤ self.old.top) × (self.old.top < 15) × (self.old.used < 4294967295) }
+        ensures { self.new ≡ raised self.old }
+    {
+        let end = self.largest_end;
+        self.top += 1;
+        self.low = self.top;
+        self.branch.open(self.top, self.used, self.start, 1, end);
+        self.used += 1;
+    }
+
+    // A node of a chain: the lowest level, one above, gets a new child that starts at start.
+    #[tactic(auto, unfolding(crate::specs::Moves::made, crate::specs::Moves::with_branch))]
+    pub fn make(&mut self, start: u64, level: u64)
+        requires { (level < self.old.low) × (self.old.low ≤ self.old.top) × (self.old.top < 16) × (self.old.used < 4294967295) × (children_at self.old.branch (level + 1) < 65535) }
+        ensures { self.new ≡ made self.old start level }
+    {
+        self.branch.count_child(level + 1);
+        self.branch.open(level, self.used, start, 0, 0);
+        self.used += 1;
+        self.low = level;
+    }
+
+    // "S is the largest end stored so far"
+    #[tactic(auto, unfolding(crate::specs::Moves::stretched, crate::specs::Moves::with_largest))]
+    pub fn stretch(&mut self, end: u64)
+        ensures { self.new ≡ stretched self.old end }
+    {
+        self.largest_end = self.largest_end.max(end);
+    }
+
+    // "a change at time t makes it t"
+    #[tactic(auto, unfolding(crate::specs::Moves::at_time))]
+    pub fn at_time(&mut self, t: u64)
+        ensures { self.new ≡ at_time self.old t }
+    {
+        self.latest = t;
+    }
+
+    #[tactic(auto, unfolding(crate::specs::Moves::with_attribute))]
+    pub fn add_attribute(&mut self)
+        requires { self.old.attributes < 4294967295 }
+        ensures { self.new ≡ with_attribute self.old }
+    {
+        self.attributes += 1;
+    }
+
+    // "closes all open nodes with end T. T becomes the latest time"
+    #[tactic(auto, unfolding(crate::specs::Moves::finished_at))]
+    pub fn finish(&mut self, t: u64)
+        requires { self.old.top < 16 }
+        ensures { self.new ≡ finished_at self.old t }
+    {
+        self.latest = t;
+        self.low = self.top + 1;
+        self.finished = true;
+    }
 }

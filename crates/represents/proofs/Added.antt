@@ -9,10 +9,8 @@ use lib.ListN.{length}
 use borrow.Author.Tests.{leb-false, eqb-true, eqb-false}
 use Rattle.layout.specs.declared.Shape.{Shape}
 use Rattle.layout.specs.Layout.{entry_size}
-use Rattle.record.specs.Record.{History}
-use Rattle.record.specs.declared.Refusal.{Refusal}
-use Rattle.record.specs.declared.Refusal.TheVariants.{Nothing, Short, Damaged, Finished, TableFull}
-use Rattle.record.specs.Refusals.{accepted, number_of}
+use Rattle.record.specs.declared.History.{History}
+use Rattle.record.specs.Refusals.{Reply, Nothing, Short, Damaged, Finished, TableFull, accepted, number_of}
 use Rattle.record.specs.Moves.{with_attribute}
 use Rattle.transient.specs.Transient.{ongoing_at, begins, with_ongoing}
 use Rattle.transient.proofs.Sound.{begins_fits}
@@ -30,7 +28,8 @@ use Rattle.represents.specs.Histories.{ongoing_of, Shows}
 use Rattle.represents.proofs.Unseen.{with_attribute_lem}
 use Rattle.represents.proofs.Real.{Real}
 use Rattle.represents.proofs.Whole.{whole, long_enough_lem}
-use Rattle.represents.proofs.Numbers.{zero_nothing, then_8}
+use Rattle.record.proofs.Said.{zero_nothing}
+use Rattle.represents.proofs.Numbers.{then_8}
 use Rattle.represents.proofs.Opened.{begins_unset}
 
 neither : (x y : Bool) → x || y ≡ false → (x ≡ false) × (y ≡ false)
@@ -64,7 +63,7 @@ module _ (s : Shape) (l : M.History) (h : History) (b table : List ℕ) (real : 
     comes : add_of h b table ≡ outcome (answered Nothing (with_attribute h)) b after
     unfolding add_of
     comes =
-        ap (λ (r : Refusal). cond (accepted r) (outcome (answered Nothing (with_attribute h)) b after) (outcome (answered r h) b table))
+        ap (λ (r : Reply). cond (accepted r) (outcome (answered Nothing (with_attribute h)) b after) (outcome (answered r h) b table))
         (zero_nothing (add_refusal h (length b) (length table)) (add_answer ∙ taken))
 
     room_left : suc l.attributes ≤ length table / entry_size

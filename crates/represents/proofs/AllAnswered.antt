@@ -11,10 +11,8 @@ use lib.Seq.{sets}
 use borrow.Author.Tests.{le-ltb}
 use Rattle.layout.specs.Layout.{entry_size, entry_bytes, spread}
 use Rattle.layout.proofs.Encoded.{spread_snoc}
-use Rattle.record.specs.Record.{History}
-use Rattle.record.specs.declared.Refusal.{Refusal}
-use Rattle.record.specs.declared.Refusal.TheVariants.{Nothing, Damaged, Outside}
-use Rattle.record.specs.Refusals.{number_of, accepted}
+use Rattle.record.specs.declared.History.{History}
+use Rattle.record.specs.Refusals.{Reply, Nothing, Damaged, Outside, number_of, accepted}
 use Rattle.walk.specs.declared.View.{View}
 use Rattle.walk.specs.View.{view_of}
 use Rattle.walk.specs.Rules.{kept}
@@ -78,7 +76,7 @@ module _ {r : Run} {h : History} {nodes table : List ℕ} (allowed : Allowed r) 
   -- ---- the theorem
 
   module _ (t : ℕ) (answer : List ℕ) (room : h.attributes ≤ length answer / entry_size) where
-    abbrev reason : Bool → Refusal
+    abbrev reason : Bool → Reply
     reason b = cond (not b) Outside Nothing
 
     -- "query 3 record, 2, 7, 6, 3": of these only 6 is left
@@ -99,7 +97,7 @@ module _ {r : Run} {h : History} {nodes table : List ℕ} (allowed : Allowed r) 
     pub full_answered : FullAnswered r t (full_of h t nodes table (length answer)) answer (full_written h t nodes table answer)
     unfolding full_of full_written refused_full number_of full
     full_answered =
-        subst (λ (x : Refusal). FullAnswered r t (record { refusal = x; nodes = cond (accepted x) (walk_of nodes (view_of h) t).entered 0 }) answer
+        subst (λ (x : Reply). FullAnswered r t (record { refusal = x; nodes = cond (accepted x) (walk_of nodes (view_of h) t).entered 0 }) answer
         (cond (accepted x) (sets answer 0 (full_entries (view_of h) t nodes table 0 h.attributes)) answer)) (sym refusal_is)
         (go (asked (left r) t) refl)
       where

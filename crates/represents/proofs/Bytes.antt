@@ -1,4 +1,4 @@
--- What document 01 lets be written, over the bytes of the model's nodes: a header, a header and an entry, a new node behind the last. Assumes nothing.
+-- What the specification lets be written, over the bytes of the model's nodes: a header, a header and an entry, a new node behind the last. Assumes nothing.
 use Prim.Native.Nat.{ℕ, zero, suc, ◌+◌, ◌*◌, ◌≤◌, ◌<◌}
 use mathlib.Core.Path.{◌≡◌, refl, sym, ap, ◌∙◌}
 use mathlib.Core.List.{List, [], ◌∷◌, ◌++◌, map, map-append}

@@ -9,7 +9,7 @@ use lib.ListN.{length}
 use borrow.Author.Tests.{eqb-true, eqb-false}
 use Rattle.layout.specs.declared.Shape.{Shape}
 use Rattle.layout.specs.Layout.{entry_size}
-use Rattle.record.specs.Record.{History}
+use Rattle.record.specs.declared.History.{History}
 use Rattle.record.specs.Refusals.{accepted, number_of}
 use Rattle.calls.specs.Outcome.{Outcome}
 use Rattle.model.specs.Transient as M
@@ -21,7 +21,7 @@ use Rattle.represents.specs.Represents.{shape_of}
 use Rattle.represents.specs.Histories.{Shows, Opening, run_of, Stands}
 use Rattle.represents.specs.Calls.{outcome_of}
 use Rattle.represents.proofs.Real.{Real, real}
-use Rattle.represents.proofs.Numbers.{nothing_zero}
+use Rattle.record.proofs.Said.{accepted_nothing}
 use Rattle.represents.proofs.ChangeAnswers.{change_answer}
 use Rattle.represents.proofs.ChangeShows.{change_shows}
 use Rattle.represents.proofs.Added.{add_answer, add_shows}
@@ -85,7 +85,7 @@ module _ (p : Opening) (cs : List Call) (h : History) (b table : List ℕ) (stan
     where
       not_accepted : (x : Bool) → accepted (refusal_of c h b table) ≡ x → x ≡ false
       not_accepted true e =
-          absurd (refused (sym (answer p.shape l h b table known stands.shows p.entries stands.entries c fit) ∙ ap number_of (nothing_zero (refusal_of c h b table) e)))
+          absurd (refused (sym (answer p.shape l h b table known stands.shows p.entries stands.entries c fit) ∙ ap number_of (accepted_nothing (refusal_of c h b table) e)))
       not_accepted false e = refl
 
   -- ---- the run with the call

@@ -8,8 +8,8 @@ use lib.Dec.{ltb, leb}
 use lib.ListN.{length, length-append}
 use borrow.Author.Tests.{lt-ltb, le-ltb, ltb-false}
 use Rattle.layout.specs.declared.Shape.{Shape}
-use Rattle.record.specs.Record.{History}
-use Rattle.record.specs.declared.Refusal.TheVariants.{Nothing}
+use Rattle.record.specs.declared.History.{History}
+use Rattle.record.specs.Refusals.{Nothing}
 use Rattle.record.specs.Levels.{last_end_at}
 use Rattle.record.specs.Moves.{with_largest, stretched}
 use Rattle.settle.specs.declared.Plan.{Plan}

@@ -9,10 +9,8 @@ use borrow.Author.Tests.{leb-false, ltb-false}
 use mir.Syntax.{w64}
 use mir.Val.{SFits}
 use Rattle.layout.specs.declared.Shape.{Shape}
-use Rattle.record.specs.Record.{History}
-use Rattle.record.specs.declared.Refusal.{Refusal}
-use Rattle.record.specs.declared.Refusal.TheVariants.{Nothing, Short, Damaged, Finished, NoQuark, Outside, Early, Top, Deep, NoRoom}
-use Rattle.record.specs.Refusals.{number_of}
+use Rattle.record.specs.declared.History.{History}
+use Rattle.record.specs.Refusals.{Reply, Nothing, Short, Damaged, Finished, NoQuark, Outside, Early, Top, Deep, NoRoom, number_of}
 use Rattle.record.specs.Sound.{last_time}
 use Rattle.transient.specs.declared.Ongoing.{Ongoing}
 use Rattle.transient.specs.declared.Decision.{Decision}
@@ -38,7 +36,7 @@ use Rattle.represents.proofs.Numbers.{then_9, then_7}
 use Rattle.represents.proofs.Decided.{decision_of, decides, decides_top}
 
 -- the tests 10 and 11 of a change, by its decision
-abbrev limited : History → ℕ → Decision → Refusal
+abbrev limited : History → ℕ → Decision → Reply
 limited h start d = cond (C.stores d && too_deep (settle h start)) Deep (cond (C.stores d && no_room h (settle h start)) NoRoom Nothing)
 
 module _ (s : Shape) (h : History) (b : List ℕ) (t : Tree) (rep : Represents s t (held h b)) where
@@ -53,7 +51,7 @@ module _ (s : Shape) (l : M.History) (h : History) (b table : List ℕ) (real : 
   abbrev o : M.Ongoing
   o = l.table q
 
-  abbrev tail : Ongoing → Refusal
+  abbrev tail : Ongoing → Reply
   tail e =
       let d = decide e t (change_is c) in
       cond (not (ongoing_sound e h.start h.latest)) Damaged (cond (ltb last_time t) Outside (cond (ltb t h.latest) Early (cond (C.is_top d) Top (limited h e.start d))))

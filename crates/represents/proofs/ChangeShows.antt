@@ -8,10 +8,8 @@ use lib.Dec.{eqb}
 use lib.ListN.{length}
 use borrow.Author.Tests.{eqb-true, eqb-false}
 use Rattle.layout.specs.declared.Shape.{Shape}
-use Rattle.record.specs.Record.{History}
-use Rattle.record.specs.declared.Refusal.{Refusal}
-use Rattle.record.specs.declared.Refusal.TheVariants.{Nothing}
-use Rattle.record.specs.Refusals.{accepted}
+use Rattle.record.specs.declared.History.{History}
+use Rattle.record.specs.Refusals.{Reply, Nothing, accepted}
 use Rattle.record.specs.Moves.{at_time}
 use Rattle.transient.specs.declared.Ongoing.{Ongoing}
 use Rattle.transient.specs.Transient.{ongoing_at, interval, with_ongoing, decide, OngoingFits}
@@ -39,7 +37,7 @@ use Rattle.represents.proofs.Linked.{number_nothing, refused_same, inserted_repr
 use Rattle.represents.proofs.Unseen.{at_time_lem}
 use Rattle.represents.proofs.Real.{Real}
 use Rattle.represents.proofs.Whole.{tree_start, value_fits, state_fits}
-use Rattle.represents.proofs.Numbers.{zero_nothing}
+use Rattle.record.proofs.Said.{zero_nothing}
 use Rattle.represents.proofs.Decided.{decision_of, decides, becomes_within}
 use Rattle.represents.proofs.ChangeAnswers.{change_answer}
 
@@ -177,7 +175,7 @@ module _ (s : Shape) (l : M.History) (h : History) (b table : List ℕ) (real : 
       let is : ongoing_at table q ≡ ongoing_of o = (shows.until facts.0).entries q facts.1 in
       let decision = ap (λ (z : Ongoing). decide z t (change_is c)) is ∙ decides o t c fit (value_fits o.state (real.values q)) facts.4 in
       let nothing = zero_nothing (change_refusal h t (record { 0 = q }) (change_is c) b table) (change_answer s l h b table real shows m t q c fit ∙ taken) in
-      ap (λ (r : Refusal). cond (accepted r) (carried h t (record { 0 = q }) (ongoing_at table q) b table (decide (ongoing_at table q) t (change_is c)))
+      ap (λ (r : Reply). cond (accepted r) (carried h t (record { 0 = q }) (ongoing_at table q) b table (decide (ongoing_at table q) t (change_is c)))
       (outcome (answered r h) b table)) nothing
       ∙ (λ i. carried h t (record { 0 = q }) (is i) b table (decision i))
 

@@ -1,4 +1,5 @@
 -- What a change does to an ongoing state: the decision on the entry is the model's effect. Assumes nothing.
+use Rattle.std.specs.Prelude.{Option, Some, None}
 use Prim.Native.Nat.{ℕ, suc, ◌-◌, ◌^◌}
 use mathlib.Core.Bool.{Bool, true, false, cond, ◌&&◌, true≢false}
 use mathlib.Core.Path.{◌≡◌, refl, sym, ap, ◌∙◌, subst}
@@ -8,8 +9,6 @@ use lib.IntN.{ℤ, pos, negsuc, suc_ℤ}
 use borrow.Author.Tests.{eq-eqb, ne_eqb}
 use mir.Syntax.{w64}
 use mir.Val.{SFits, of_z}
-use Rattle.transient.specs.declared.Outcome.{Outcome}
-use Rattle.transient.specs.declared.Outcome.TheVariants.{To, Above}
 use Rattle.transient.specs.declared.Decision.{Decision}
 use Rattle.transient.specs.declared.Decision.TheVariants.{Top, Same, Replaced, Ended}
 use Rattle.transient.specs.Transient as T
@@ -48,12 +47,12 @@ top_bits (pos n) f = refl
 top_bits (negsuc n) f = ne_eqb (2 ^ 64 - suc n) 9223372036854775807 (λ e. omega arith)
 
 becomes_same : (c : Change) (w : State) → SFits w64 (value_of w)
-    → T.becomes (change_is c) (kind_of w) (value_of w) ≡ cond (passes_top c w) Above (To (kind_of (becomes c w)) (value_of (becomes c w)))
+    → T.becomes (change_is c) (kind_of w) (value_of w) ≡ cond (passes_top c w) None (Some (kind_of (becomes c w), value_of (becomes c w)))
 unfolding T.becomes increased
 becomes_same (set v) w f = refl
 becomes_same remove w f = refl
 becomes_same increment null f = refl
-becomes_same increment (int z) f = ap (λ (b : Bool). cond b Above (To 1 (suc_ℤ z))) (top_bits z f)
+becomes_same increment (int z) f = ap (λ (b : Bool). cond b None (Some (1, suc_ℤ z))) (top_bits z f)
 
 change_fits : (c : Change) → Change64 c → ChangeFits (change_is c)
 change_fits (set v) a = record { value = λ w e. subst (SFits w64) (cc) (within_fits v a) }
@@ -64,7 +63,7 @@ change_fits increment a = record { value = λ w e. let z : ◌≡◌ {A = ℕ} 0
 pub becomes_within : (c : Change) (w : State) → Change64 c → SFits w64 (value_of w) → passes_top c w ≡ false → SFits w64 (value_of (becomes c w))
 becomes_within c w a f e =
     (becomes_fits (change_is c) (kind_of w) (value_of w) (kind_of (becomes c w)) (value_of (becomes c w)) (change_fits c a) f
-    (becomes_same c w f ∙ ap (λ (b : Bool). cond b Above (To (kind_of (becomes c w)) (value_of (becomes c w)))) e)).1
+    (becomes_same c w f ∙ ap (λ (b : Bool). cond b None (Some (kind_of (becomes c w), value_of (becomes c w)))) e)).1
 
 -- ---- the decision
 
@@ -80,7 +79,7 @@ chosen n false true = refl
 chosen n false false = refl
 
 to_decision : (v : State) (o : OngoingM) (t : ℕ) → SFits w64 (value_of v) → SFits w64 (value_of o.state)
-    → decided (To (kind_of v) (value_of v)) (ongoing_of o) t ≡ decision_of (effect v o t) (record { state = v; start = t })
+    → decided (Some (kind_of v, value_of v)) (ongoing_of o) t ≡ decision_of (effect v o t) (record { state = v; start = t })
 unfolding decided same_state
 to_decision v o t f g =
     let n : OngoingM = record { state = v; start = t } in
@@ -88,19 +87,19 @@ to_decision v o t f g =
     ∙ chosen n (same v o.state) (eqb o.start t)
 
 module _ (o : OngoingM) (t : ℕ) (c : Change) (a : Change64 c) (f : SFits w64 (value_of o.state)) where
-  decide_by : decide (ongoing_of o) t (change_is c) ≡ decided (cond (passes_top c o.state) Above (To (kind_of (becomes c o.state)) (value_of (becomes c o.state)))) (ongoing_of o) t
+  decide_by : decide (ongoing_of o) t (change_is c) ≡ decided (cond (passes_top c o.state) None (Some (kind_of (becomes c o.state), value_of (becomes c o.state)))) (ongoing_of o) t
   unfolding decide
-  decide_by = ap (λ (r : Outcome). decided r (ongoing_of o) t) (becomes_same c o.state f)
+  decide_by = ap (λ (r : Option (ℕ × ℤ)). decided r (ongoing_of o) t) (becomes_same c o.state f)
 
   -- an increment of 2^63-1
   pub decides_top : passes_top c o.state ≡ true → decide (ongoing_of o) t (change_is c) ≡ Top
   unfolding decided
-  decides_top e = decide_by ∙ ap (λ (b : Bool). decided (cond b Above (To (kind_of (becomes c o.state)) (value_of (becomes c o.state)))) (ongoing_of o) t) e
+  decides_top e = decide_by ∙ ap (λ (b : Bool). decided (cond b None (Some (kind_of (becomes c o.state), value_of (becomes c o.state)))) (ongoing_of o) t) e
 
   -- any other change
   pub decides : passes_top c o.state ≡ false
       → decide (ongoing_of o) t (change_is c) ≡ decision_of (effect (becomes c o.state) o t) (record { state = becomes c o.state; start = t })
   decides e =
       decide_by
-      ∙ ap (λ (b : Bool). decided (cond b Above (To (kind_of (becomes c o.state)) (value_of (becomes c o.state)))) (ongoing_of o) t) e
+      ∙ ap (λ (b : Bool). decided (cond b None (Some (kind_of (becomes c o.state), value_of (becomes c o.state)))) (ongoing_of o) t) e
       ∙ to_decision (becomes c o.state) o t (becomes_within c o.state a f e) f

@@ -9,7 +9,7 @@ use lib.ListN.{length, drop}
 use lib.Seq.{drop_at}
 use Rattle.layout.specs.declared.Shape.{Shape}
 use Rattle.layout.specs.Layout.{node_size, encode, encode_all, new_node}
-use Rattle.record.specs.Record.{History}
+use Rattle.record.specs.declared.History.{History}
 use Rattle.build.specs.Moves.{Held, held, head_of, stands_at, put_head, put_new}
 use Rattle.build.specs.Write as W
 use Rattle.build.proofs.Steps.{planted_length}

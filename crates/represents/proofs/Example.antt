@@ -9,7 +9,7 @@ use lib.ListN.{replicate}
 use Rattle.words.specs.Words.{le, num}
 use Rattle.layout.specs.declared.Quark.{Quark}
 use Rattle.layout.specs.Layout as L
-use Rattle.record.specs.Record.{History}
+use Rattle.record.specs.declared.History.{History}
 use Rattle.record.specs.Refusals.{number_of}
 use Rattle.record.specs.Sound as S
 use Rattle.transient.specs.Transient as T
@@ -43,7 +43,7 @@ h = record {
   top = 0;
   finished = false;
   branch = record {
-    places = replicate 16 (record { 0 = 0 });
+    places = replicate 16 0;
     starts = replicate 16 0;
     intervals = 1 ∷ replicate 15 0;
     children = replicate 16 0;

@@ -10,9 +10,8 @@ use lib.Seq.{drop_at}
 use borrow.Author.Tests.{ltb-false}
 use Rattle.layout.specs.declared.Shape.{Shape}
 use Rattle.layout.specs.Layout.{node_size}
-use Rattle.record.specs.Record.{History}
-use Rattle.record.specs.declared.Refusal.TheVariants.{Nothing, Short, Damaged, Finished, Outside, Early}
-use Rattle.record.specs.Refusals.{accepted, number_of}
+use Rattle.record.specs.declared.History.{History}
+use Rattle.record.specs.Refusals.{Nothing, Short, Damaged, Finished, Outside, Early, accepted, number_of}
 use Rattle.record.specs.Sound.{last_time}
 use Rattle.record.specs.Moves.{finished_at}
 use Rattle.build.specs.Moves.{Held, held}
@@ -38,7 +37,8 @@ use Rattle.represents.proofs.Ends.{closed_all}
 use Rattle.represents.proofs.Levels.{rooted}
 use Rattle.represents.proofs.Real.{Real}
 use Rattle.represents.proofs.Whole.{tree_start, whole, long_enough_lem, entry_sound_lem}
-use Rattle.represents.proofs.Numbers.{zero_nothing, then_4, then_5}
+use Rattle.record.proofs.Said.{zero_nothing}
+use Rattle.represents.proofs.Numbers.{then_4, then_5}
 use Rattle.represents.proofs.Trials.{all_each, last_from, last_all, last_sane, last_early, trial_all, stored_all, all_alike, all_length}
 
 -- ---- closing all, on what represents a tree

@@ -12,7 +12,7 @@ use lib.ListN.{length, get_or}
 use mir.Syntax.{w64}
 use mir.Val.{SFits}
 use Rattle.layout.specs.Layout.{node_size}
-use Rattle.record.specs.Record.{History}
+use Rattle.record.specs.declared.History.{History}
 use Rattle.record.specs.Levels.{place_at}
 use Rattle.record.proofs.Facts.{sound_shape, sound_numbers, sound_root}
 use Rattle.record.proofs.Room.{nodes_room}

@@ -8,7 +8,7 @@ use lib.Dec.{leb, eqb}
 use lib.ListN.{length}
 use borrow.Author.Tests.{le-leb, lt-ltb, ne_eqb, eqb-false}
 use Rattle.layout.specs.declared.Shape.{Shape}
-use Rattle.record.specs.Record.{Branch}
+use Rattle.record.specs.declared.Branch.{Branch}
 use Rattle.record.specs.Levels.{place_at, start_at, intervals_at, children_at, last_end_at}
 use Rattle.record.specs.Sound.{all, level_sound, apart, levels_sound, starts_fall, last_end_sound}
 use Rattle.model.specs.Build.{Subtrees, childless, also, many, next, Open}

@@ -11,7 +11,8 @@ use borrow.Author.Tests.{lt-ltb, le-ltb, ne_eqb}
 use Rattle.layout.specs.declared.Seq.{Seq}
 use Rattle.layout.specs.declared.Shape.{Shape}
 use Rattle.layout.specs.Layout.{node_size}
-use Rattle.record.specs.Record.{Branch, History}
+use Rattle.record.specs.declared.Branch.{Branch}
+use Rattle.record.specs.declared.History.{History}
 use Rattle.record.specs.Levels.{seq_at, place_at, start_at, intervals_at, children_at, last_end_at}
 use Rattle.record.specs.Moves.{level_stored, with_branch, closed, raised, made, stored}
 use Rattle.record.specs.Firm.{LevelIs, SameLevel}

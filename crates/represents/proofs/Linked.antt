@@ -11,10 +11,8 @@ use lib.Seq.{drop_at}
 use borrow.Author.Tests.{lt-ltb, le-ltb, ltb-true, ltb-false}
 use Rattle.layout.specs.declared.Shape.{Shape}
 use Rattle.layout.specs.Layout.{node_size, encode}
-use Rattle.record.specs.Record.{History}
-use Rattle.record.specs.declared.Refusal.{Refusal}
-use Rattle.record.specs.declared.Refusal.TheVariants.{Nothing, Deep, NoRoom}
-use Rattle.record.specs.Refusals.{number_of, accepted}
+use Rattle.record.specs.declared.History.{History}
+use Rattle.record.specs.Refusals.{Reply, Nothing, Deep, NoRoom, number_of, accepted}
 use Rattle.settle.specs.declared.Plan.{Plan}
 use Rattle.settle.specs.Settle.{settle, needed, too_deep, no_room, plan_refusal}
 use Rattle.build.specs.Moves.{Held}
@@ -108,7 +106,7 @@ module _ (s : Shape) (x : Interval) (t : Tree) (σ : Held) (early : x.end < ∞)
 
     is_written : written (entry_of x) plan σ ≡ σ'
     unfolding inserted
-    is_written = ap (λ (z : Refusal). cond (accepted z) (written (entry_of x) plan σ) σ) (sym passed)
+    is_written = ap (λ (z : Reply). cond (accepted z) (written (entry_of x) plan σ) σ) (sym passed)
 
     stood : StandsFor s σ.nodes t'.start t'.largest t'.used t'.branch σ'
     unfolding insert Outcome Done

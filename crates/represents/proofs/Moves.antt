@@ -5,10 +5,10 @@ use mathlib.Core.List.{List, [], ◌∷◌, ◌++◌}
 use mathlib.Core.Option.{Option, none, some}
 use native.Mathlib.Omega.{arith}
 use lib.ListN.{length, set, drop, length-append, length-set}
+use Rattle.std.specs.Prelude.{Some}
 use Rattle.layout.specs.declared.Shape.{Shape}
-use Rattle.layout.specs.declared.First.TheVariants.{OneChild}
 use Rattle.layout.specs.Layout.{node_size, encode, new_node}
-use Rattle.record.specs.Record.{History}
+use Rattle.record.specs.declared.History.{History}
 use Rattle.record.specs.Levels.{seq_at, start_at, intervals_at, children_at}
 use Rattle.record.specs.Moves.{with_branch, raised, made, stored}
 use Rattle.record.proofs.Effects.{raised_at}
@@ -60,7 +60,7 @@ wrote q x (g ∷ below) f above c =
 module _ {s : Shape} {o S q : ℕ} where
   -- the new root whole, with the old root as its child
   new_root_lem : (f : Open) (h : History) → Numbers s o S q (f ∷ []) h → Numbers s o S (suc q) (new_root o S q f ∷ []) (raised h)
-      → encode (raised h).shape (new_node (head_of (raised h) (h.top + 1) open_end 1) (OneChild (record { sequence = seq_at h.branch h.top; start = start_at h.branch h.top })))
+      → encode (raised h).shape (new_node (head_of (raised h) (h.top + 1) open_end 1) (Some (record { sequence = seq_at h.branch h.top; start = start_at h.branch h.top })))
       ≡ encode s (node_of (shown_as none ∞ none (new_root o S q f)))
   unfolding new_node raised with_branch
   new_root_lem f h n m =

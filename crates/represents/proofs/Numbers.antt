@@ -2,55 +2,12 @@
 use Prim.Native.Nat.{ℕ}
 use mathlib.Core.Bool.{Bool, true, false, cond}
 use mathlib.Core.Path.{◌≡◌, refl, ap, ◌∙◌}
-use native.Mathlib.Omega.{arith}
-use Rattle.record.specs.declared.Refusal.{Refusal}
-use Rattle.record.specs.declared.Refusal.TheVariants.{Nothing, Numbers, Short, Damaged, Finished, Early, Outside, NoQuark, TableFull, Top, Deep, NoRoom, NoTag, WrongLength, Cut, NotOpen, LongFeed}
-use Rattle.record.specs.Refusals.{number_of, accepted}
+use Rattle.record.specs.Refusals.{Reply, Nothing, Finished, Early, Outside, NoQuark, TableFull, Top, number_of}
 use Rattle.model.specs.Refusals.{sooner}
-
--- only acceptance has the number 0
-pub zero_nothing : (r : Refusal) → number_of r ≡ 0 → r ≡ Nothing
-unfolding number_of
-zero_nothing Nothing e = refl
-zero_nothing Numbers e = absurd (omega arith)
-zero_nothing Short e = absurd (omega arith)
-zero_nothing Damaged e = absurd (omega arith)
-zero_nothing Finished e = absurd (omega arith)
-zero_nothing Early e = absurd (omega arith)
-zero_nothing Outside e = absurd (omega arith)
-zero_nothing NoQuark e = absurd (omega arith)
-zero_nothing TableFull e = absurd (omega arith)
-zero_nothing Top e = absurd (omega arith)
-zero_nothing Deep e = absurd (omega arith)
-zero_nothing NoRoom e = absurd (omega arith)
-zero_nothing NoTag e = absurd (omega arith)
-zero_nothing WrongLength e = absurd (omega arith)
-zero_nothing Cut e = absurd (omega arith)
-zero_nothing NotOpen e = absurd (omega arith)
-zero_nothing LongFeed e = absurd (omega arith)
-
-pub nothing_zero : (r : Refusal) → accepted r ≡ true → r ≡ Nothing
-nothing_zero Nothing e = refl
-nothing_zero Numbers e = cc
-nothing_zero Short e = cc
-nothing_zero Damaged e = cc
-nothing_zero Finished e = cc
-nothing_zero Early e = cc
-nothing_zero Outside e = cc
-nothing_zero NoQuark e = cc
-nothing_zero TableFull e = cc
-nothing_zero Top e = cc
-nothing_zero Deep e = cc
-nothing_zero NoRoom e = cc
-nothing_zero NoTag e = cc
-nothing_zero WrongLength e = cc
-nothing_zero Cut e = cc
-nothing_zero NotOpen e = cc
-nothing_zero LongFeed e = cc
 
 -- ---- a change's 6, 5 and 9, a finish's 6 and 5: what follows decides if none of them holds
 
-pub then_9 : (a b x : Bool) (r : Refusal) (n : ℕ) → (a ≡ false → b ≡ false → x ≡ false → number_of r ≡ n)
+pub then_9 : (a b x : Bool) (r : Reply) (n : ℕ) → (a ≡ false → b ≡ false → x ≡ false → number_of r ≡ n)
     → number_of (cond a Outside (cond b Early (cond x Top r))) ≡ sooner (cond a 6 (cond b 5 (cond x 9 0))) n
 unfolding number_of
 then_9 true b x r n e = refl
@@ -58,14 +15,14 @@ then_9 false true x r n e = refl
 then_9 false false true r n e = refl
 then_9 false false false r n e = e refl refl refl
 
-pub then_5 : (a b : Bool) (r : Refusal) (n : ℕ) → (a ≡ false → b ≡ false → number_of r ≡ n)
+pub then_5 : (a b : Bool) (r : Reply) (n : ℕ) → (a ≡ false → b ≡ false → number_of r ≡ n)
     → number_of (cond a Outside (cond b Early r)) ≡ sooner (cond a 6 (cond b 5 0)) n
 unfolding number_of
 then_5 true b r n e = refl
 then_5 false true r n e = refl
 then_5 false false r n e = e refl refl
 
-pub then_7 : (f x : Bool) (r : Refusal) (k n : ℕ) → (f ≡ false → x ≡ false → number_of r ≡ sooner k n)
+pub then_7 : (f x : Bool) (r : Reply) (k n : ℕ) → (f ≡ false → x ≡ false → number_of r ≡ sooner k n)
     → number_of (cond f Finished (cond x NoQuark r)) ≡ sooner (cond f 4 (cond x 7 k)) n
 unfolding number_of
 then_7 true x r k n e = refl
@@ -81,7 +38,7 @@ then_8 false x y e = ap (λ (z : Bool). number_of (cond z TableFull Nothing)) (e
     go true = refl
     go false = refl
 
-pub then_4 : (f : Bool) (r : Refusal) (k n : ℕ) → (f ≡ false → number_of r ≡ sooner k n) → number_of (cond f Finished r) ≡ sooner (cond f 4 k) n
+pub then_4 : (f : Bool) (r : Reply) (k n : ℕ) → (f ≡ false → number_of r ≡ sooner k n) → number_of (cond f Finished r) ≡ sooner (cond f 4 k) n
 unfolding number_of
 then_4 true r k n e = refl
 then_4 false r k n e = e refl

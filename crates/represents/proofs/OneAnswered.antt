@@ -9,15 +9,12 @@ use lib.Dec.{leb}
 use lib.ListN.{length}
 use borrow.Author.Tests.{leb-true, leb-false}
 use Rattle.layout.specs.declared.Quark.{Quark}
-use Rattle.record.specs.Record.{History}
-use Rattle.record.specs.declared.Refusal.{Refusal}
-use Rattle.record.specs.declared.Refusal.TheVariants.{Nothing, Damaged, Outside, NoQuark}
-use Rattle.record.specs.Refusals.{number_of, accepted}
-use Rattle.questions.specs.declared.Single.{Single}
+use Rattle.record.specs.declared.History.{History}
+use Rattle.record.specs.Refusals.{Reply, Nothing, Damaged, Outside, NoQuark, number_of, accepted}
 use Rattle.walk.specs.View as Q
 use Rattle.walk.specs.View.{view_of}
 use Rattle.walk.specs.Walk.{walk_of}
-use Rattle.questions.specs.Single.{refused_single, told, from_table, entry_fine, single_answer, single_refusal, single_of, table_entry, told_entry}
+use Rattle.questions.specs.Single.{Single, refused_single, told, from_table, entry_fine, single_answer, single_refusal, single_of, table_entry, told_entry}
 use Rattle.full_question.specs.Full.{full_entry}
 use Rattle.model.specs.Transient.{Interval}
 use Rattle.model.specs.Nodes.{intervals}
@@ -41,7 +38,7 @@ module _ {r : Run} {h : History} {nodes table : List ℕ} (allowed : Allowed r) 
 
   module _ (q t : ℕ) where
     -- "query 3 record, 2, 7, 6, 3": of these only 7 and 6 are left
-    abbrev reason : Bool → Bool → Refusal
+    abbrev reason : Bool → Bool → Reply
     reason a b = cond a NoQuark (cond (not b) Outside Nothing)
 
     refusal_is : single_refusal h t q nodes table ≡ reason (leb (left r).attributes q) (asked (left r) t)
@@ -102,7 +99,7 @@ module _ {r : Run} {h : History} {nodes table : List ℕ} (allowed : Allowed r) 
   unfolding single_of refused_single number_of
   single_answered t quark =
       let q = quark.0 in
-      subst (λ (x : Refusal). SingleAnswered r quark.0 t (cond (accepted x) (single_answer (view_of h) t quark.0 nodes table) (refused_single x))) (sym (refusal_is quark.0 t))
+      subst (λ (x : Reply). SingleAnswered r quark.0 t (cond (accepted x) (single_answer (view_of h) t quark.0 nodes table) (refused_single x))) (sym (refusal_is quark.0 t))
       (go (leb (left r).attributes quark.0) (asked (left r) t) refl refl)
     where
       go : (a b : Bool) → leb (left r).attributes quark.0 ≡ a → asked (left r) t ≡ b

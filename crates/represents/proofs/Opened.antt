@@ -9,8 +9,7 @@ use lib.ListN.{length}
 use borrow.Author.Tests.{leb-true, eqb-true, eqb-false}
 use Rattle.layout.specs.declared.Shape.{Shape}
 use Rattle.layout.specs.Layout.{node_size, entry_size}
-use Rattle.record.specs.declared.Refusal.TheVariants.{Nothing}
-use Rattle.record.specs.Refusals.{number_of}
+use Rattle.record.specs.Refusals.{Nothing, number_of}
 use Rattle.record.specs.Sound.{last_time, shape_allowed, long_enough}
 use Rattle.record.proofs.Facts.{sound_shaped}
 use Rattle.transient.specs.Transient.{begins, ongoing_at, with_ongoing}

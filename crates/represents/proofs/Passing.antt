@@ -1,4 +1,5 @@
 -- R1 to R6 on the bytes of a model's nodes: no test that a question makes of a node fails. Assumes nothing.
+use Rattle.std.specs.Prelude.{None}
 use Prim.Native.Nat.{ℕ, ◌+◌, ◌≤◌, ◌<◌}
 use mathlib.Core.Bool.{Bool, true, false, cond, not, ◌&&◌, ◌||◌}
 use mathlib.Core.Path.{◌≡◌, refl, ap, ◌∙◌}
@@ -12,7 +13,6 @@ use Rattle.layout.specs.Layout.{entry_size, read_entry}
 use Rattle.transient.specs.Transient.{state_sound}
 use Rattle.walk.specs.declared.View.{View}
 use Rattle.walk.specs.declared.Walk.{Walk}
-use Rattle.walk.specs.declared.Rule.TheVariants.{Kept}
 use Rattle.walk.specs.Rules as Q
 use Rattle.walk.specs.Rules.{r1, r2, r3, r4, r5, broken, entry_sound}
 use Rattle.walk.specs.Walk.{all_sound}
@@ -79,11 +79,11 @@ fourth v ns m s = rw (le-leb (length m.held) v.shape.k s.intervals, le-leb (leng
     go true e = rw (s.leaf (eqb-true m.level 0 e))
     go false e = refl
 
-none_broken : (v : View) (w : Walk) (n : ℕ) (h : Header) → r1 v w h ≡ true → r2 n h ≡ true → r3 h ≡ true → r4 v h ≡ true → r5 w h ≡ true → broken v w n h ≡ Kept
+none_broken : (v : View) (w : Walk) (n : ℕ) (h : Header) → r1 v w h ≡ true → r2 n h ≡ true → r3 h ≡ true → r4 v h ≡ true → r5 w h ≡ true → broken v w n h ≡ None
 unfolding broken
 none_broken v w n h a b c d e = rw (a, b, c, d, e)
 
-pub passes : {v : View} {l : List ℕ} {ns : List Node} (r : Readable v l ns) (n : ℕ) (w : Walk) (d : Due ns n w) → broken v w n (header_of (get_or ns w.place.0 blank)) ≡ Kept
+pub passes : {v : View} {l : List ℕ} {ns : List Node} (r : Readable v l ns) (n : ℕ) (w : Walk) (d : Due ns n w) → broken v w n (header_of (get_or ns w.place.0 blank)) ≡ None
 unfolding r1 r2
 passes {v} {l} {ns} r n w d =
     let m = get_or ns w.place.0 blank in

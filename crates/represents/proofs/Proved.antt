@@ -9,7 +9,7 @@ use Rattle.model.specs.Theorems.{left, Calls64}
 use Rattle.represents.specs.Histories.{run_of}
 use Rattle.represents.specs.Calls.{ran_of}
 use Rattle.represents.specs.Theorems.{opening_of, OpenAnswers, OpenKeeps, OpenStands, CallAnswers, CallKeeps, CallStands, RunStands, RecordSound, BuffersLong, EntriesSound}
-use Rattle.represents.proofs.Numbers.{zero_nothing}
+use Rattle.record.proofs.Said.{zero_nothing}
 use Rattle.represents.proofs.Opened as O
 use Rattle.represents.proofs.Called as C
 use Rattle.represents.proofs.Real.{real}

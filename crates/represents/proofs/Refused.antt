@@ -5,10 +5,9 @@ use mathlib.Core.Path.{◌≡◌, refl, sym, ap, ◌∙◌}
 use mathlib.Core.List.{List}
 use lib.ListN.{length}
 use Rattle.layout.specs.declared.Quark.{Quark}
-use Rattle.record.specs.Record.{History}
-use Rattle.record.specs.declared.Refusal.{Refusal}
-use Rattle.record.specs.declared.Refusal.TheVariants as R
-use Rattle.record.specs.Refusals.{accepted}
+use Rattle.record.specs.declared.History.{History}
+use Rattle.record.specs.Refusals.{Reply, accepted}
+use Rattle.record.specs.Refusals as R
 use Rattle.transient.specs.declared.Ongoing.{Ongoing}
 use Rattle.transient.specs.declared.Decision.{Decision}
 use Rattle.transient.specs.declared.Decision.TheVariants.{Top, Same, Replaced, Ended}
@@ -20,16 +19,16 @@ use Rattle.calls.specs.Add.{add_refusal, add_of}
 use Rattle.calls.specs.Finish.{finish_refusal, finish_of}
 use Rattle.model.specs.Transient.{Call, change, add, finish}
 use Rattle.represents.specs.Calls.{change_is, outcome_of}
-use Rattle.represents.proofs.Numbers.{nothing_zero}
+use Rattle.record.proofs.Said.{accepted_nothing}
 
 -- ---- an outcome that is refused or done
 
-module _ (r : Refusal) (h : History) (b table : List ℕ) (done : Outcome) where
+module _ (r : Reply) (h : History) (b table : List ℕ) (done : Outcome) where
   pub said : done.answer.refusal ≡ R.Nothing → (or_refused r h b table done).answer.refusal ≡ r
   said e = go (accepted r) refl
     where
       go : (x : Bool) → accepted r ≡ x → (cond x done (outcome (answered r h) b table)).answer.refusal ≡ r
-      go true f = e ∙ sym (nothing_zero r f)
+      go true f = e ∙ sym (accepted_nothing r f)
       go false f = refl
 
   kept : accepted r ≡ false → or_refused r h b table done ≡ outcome (answered r h) b table
@@ -59,7 +58,7 @@ carried_long h t q o b table (Ended n) = length_with table q n
 -- ---- the calls
 
 -- the answer of a call's list
-abbrev pub refusal_of : Call → History → List ℕ → List ℕ → Refusal
+abbrev pub refusal_of : Call → History → List ℕ → List ℕ → Reply
 refusal_of (change t q c) h b table = change_refusal h t (record { 0 = q }) (change_is c) b table
 refusal_of add h b table = add_refusal h (length b) (length table)
 refusal_of (finish t) h b table = finish_refusal h t (length b) table

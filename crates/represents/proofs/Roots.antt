@@ -8,7 +8,8 @@ use native.Mathlib.Omega.{arith}
 use lib.ListN.{length, drop}
 use Rattle.layout.specs.declared.Shape.{Shape}
 use Rattle.layout.specs.Layout.{node_size}
-use Rattle.record.specs.Record.{Branch, History}
+use Rattle.record.specs.declared.Branch.{Branch}
+use Rattle.record.specs.declared.History.{History}
 use Rattle.record.specs.Levels.{place_at}
 use Rattle.record.specs.Sound.{sound, long_enough}
 use Rattle.transient.specs.Transient.{ongoing_at}

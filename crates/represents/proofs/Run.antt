@@ -4,9 +4,7 @@ use mathlib.Core.Bool.{Bool, true, false, cond, true≢false}
 use mathlib.Core.Path.{◌≡◌, refl, sym, ap, ◌∙◌, subst}
 use mathlib.Core.List.{List, [], ◌∷◌, reverse, reverse_aux}
 use Rattle.layout.specs.declared.Shape.{Shape}
-use Rattle.record.specs.declared.Refusal.{Refusal}
-use Rattle.record.specs.declared.Refusal.TheVariants.{Nothing}
-use Rattle.record.specs.Refusals.{number_of, accepted}
+use Rattle.record.specs.Refusals.{Reply, Nothing, number_of, accepted}
 use Rattle.settle.specs.Settle.{settle, plan_refusal}
 use Rattle.build.specs.Moves.{Held}
 use Rattle.build.specs.Write.{inserted}
@@ -48,10 +46,10 @@ onto_start sh (y ∷ ys) t = onto_start sh ys t
 -- ---- the record: one interval, and the rest
 
 module _ (x : Interval) (later : List Interval) (σ : Held) where
-  abbrev said : Refusal
+  abbrev said : Reply
   said = plan_refusal σ.history (settle σ.history x.start)
 
-  abbrev choice : Refusal → Refusal
+  abbrev choice : Reply → Reply
   choice r = cond (accepted r) (tried_all later (tried σ.history x.start x.end).history) r
 
   tried_first : tried_all (x ∷ later) σ.history ≡ choice said

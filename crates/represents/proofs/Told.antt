@@ -1,4 +1,5 @@
 -- What the walk and the table tell of one attribute is what the model finds of it. Assumes nothing.
+use Rattle.std.specs.Prelude.{None}
 use Prim.Native.Nat.{ℕ, suc, ◌≤◌, ◌<◌}
 use mathlib.Core.Bool.{Bool, true, false, cond, not, ◌&&◌, false≢true}
 use mathlib.Core.Path.{◌≡◌, refl, sym, ap, subst, ◌∙◌}
@@ -9,11 +10,10 @@ use lib.Dec.{leb}
 use lib.ListN.{length}
 use borrow.Author.Tests.{eq-eqb, ne_eqb, le-leb}
 use Rattle.layout.specs.Layout.{read_entry}
-use Rattle.record.specs.Record.{History}
+use Rattle.record.specs.declared.History.{History}
 use Rattle.record.specs.Levels.{place_at}
 use Rattle.transient.specs.declared.Ongoing.{Ongoing}
 use Rattle.transient.specs.Transient.{ongoing_at, ongoing_sound, interval}
-use Rattle.walk.specs.declared.Rule.TheVariants.{Kept}
 use Rattle.walk.specs.View.{view_of}
 use Rattle.walk.specs.Walk.{walk_of}
 use Rattle.questions.specs.Found.{many, found_of, shown}
@@ -94,7 +94,7 @@ module _ {r : Run} {h : History} {nodes table : List ℕ} (allowed : Allowed r) 
         ∙ ap (λ (n : ℕ). chase (suc μ.root.level) t (made r) n) μ.place
         ∙ subst (λ (z : Head). chase (suc z.level) t (made r) z.seq ≡ walk t none (stands r)) same (w.walked t asks)
 
-    pub walk_keeps : (walk_of nodes (view_of h) t).rule ≡ Kept
+    pub walk_keeps : (walk_of nodes (view_of h) t).rule ≡ None
     walk_keeps = breaks_none (readable allowed values μ) t early
 
     pub walk_enters : (walk_of nodes (view_of h) t).entered ≡ length (walk t none (stands r))

@@ -8,9 +8,8 @@ use native.Mathlib.Nat.{add-zero, zero-add}
 use native.Mathlib.Omega.{arith}
 use lib.ListN.{length}
 use Rattle.layout.specs.declared.Entry.{Entry}
-use Rattle.record.specs.Record.{History}
-use Rattle.record.specs.declared.Refusal.{Refusal}
-use Rattle.record.specs.Refusals.{accepted}
+use Rattle.record.specs.declared.History.{History}
+use Rattle.record.specs.Refusals.{Reply, accepted}
 use Rattle.record.specs.Sound.{all}
 use Rattle.transient.specs.declared.Ongoing.{Ongoing}
 use Rattle.transient.specs.Transient.{ongoing_at, interval}
@@ -74,7 +73,7 @@ module _ (f : ℕ → M.Ongoing) (T : ℕ) where
         let e : (ongoing_at table q).start ≡ (f q).start = ap (λ (o : Ongoing). o.start) (each q (omega arith)) in
         let r = tried h (f q).start T in
         (λ i. let r = tried h (e i) T in cond (accepted r.refusal) (trial n (q + 1) table T r.history) r.refusal)
-        ∙ ap (λ (z : Refusal). cond (accepted r.refusal) z r.refusal) (trial_all n (q + 1) r.history (omega arith))
+        ∙ ap (λ (z : Reply). cond (accepted r.refusal) z r.refusal) (trial_all n (q + 1) r.history (omega arith))
 
     entry_is : (q : ℕ) → q < many → interval (record { 0 = q }) (ongoing_at table q) T ≡ entry_of (lasting q)
     unfolding interval

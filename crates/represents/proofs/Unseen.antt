@@ -2,7 +2,7 @@
 use Prim.Native.Nat.{ℕ, ◌+◌}
 use mathlib.Core.List.{List}
 use Rattle.layout.specs.declared.Shape.{Shape}
-use Rattle.record.specs.Record.{History}
+use Rattle.record.specs.declared.History.{History}
 use Rattle.record.specs.Moves.{at_time, with_attribute}
 use Rattle.build.specs.Moves.{held}
 use Rattle.model.specs.Build.{Tree}

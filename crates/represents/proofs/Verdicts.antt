@@ -9,7 +9,7 @@ use lib.Dec.{ltb, leb}
 use lib.ListN.{length}
 use borrow.Author.Tests.{lt-ltb, le-ltb, ltb-true}
 use Rattle.layout.specs.declared.Shape.{Shape}
-use Rattle.record.specs.Record.{Branch}
+use Rattle.record.specs.declared.Branch.{Branch}
 use Rattle.record.specs.Levels.{children_at}
 use Rattle.settle.specs.declared.Verdict.TheVariants.{Here, Chain, Close}
 use Rattle.settle.specs.declared.Verdict as S

@@ -7,9 +7,8 @@ use lib.ListN.{length}
 use lib.Seq.{sets}
 use borrow.Author.Tests.{le-leb, lt-leb}
 use Rattle.layout.specs.Layout.{entry_bytes, spread}
-use Rattle.record.specs.Record.{History}
-use Rattle.record.specs.declared.Refusal.TheVariants.{Nothing}
-use Rattle.record.specs.Refusals.{number_of}
+use Rattle.record.specs.declared.History.{History}
+use Rattle.record.specs.Refusals.{Nothing, number_of}
 use Rattle.walk.specs.View.{view_of}
 use Rattle.questions.specs.Single.{single_answer, view_single}
 use Rattle.full_question.specs.Full.{full_entries, walked_refusal, walked_full, walked_written}

@@ -1,4 +1,5 @@
 -- The walk on the bytes of a model's nodes is the model's walk by places: it breaks no rule, enters as many nodes, and finds what is in them. Assumes nothing.
+use Rattle.std.specs.Prelude.{None}
 use Prim.Native.Nat.{ℕ, zero, suc, ◌+◌, ◌*◌, ◌^◌, ◌≤◌}
 use mathlib.Core.Bool.{Bool, true, false, cond, ◌&&◌}
 use mathlib.Core.Path.{◌≡◌, refl, sym, ap, subst, ◌∙◌}
@@ -15,7 +16,6 @@ use Rattle.layout.specs.Layout.{entry_size, node_size, entry_at, read_entry}
 use Rattle.record.proofs.Room.{node_inside}
 use Rattle.walk.specs.declared.View.{View}
 use Rattle.walk.specs.declared.Walk.{Walk}
-use Rattle.walk.specs.declared.Rule.TheVariants.{Kept}
 use Rattle.walk.specs.Rules as Q
 use Rattle.walk.specs.Rules.{r5}
 use Rattle.walk.specs.Walk as W
@@ -89,14 +89,14 @@ found_goes l v q t n w s e = ap (λ (b : Bool). cond b (found l v q t n (step l 
 
 -- what the walk from w on comes to, where the model enters the nodes ms
 pub record Walked (l : List ℕ) (v : View) (t n : ℕ) (w : Walk) (ms : List Node) : Type 0 where
-  pub rule : (W.walk l v t n w).rule ≡ Kept
+  pub rule : (W.walk l v t n w).rule ≡ None
   pub entered : (W.walk l v t n w).entered ≡ w.entered + length ms
   pub finds : (q s : ℕ) (ys : List Interval) → Found l s ys → Found l (found l v q t n w s) (ys ++ only (covers q t) (intervals ms))
 
-ended_walked : (l : List ℕ) (v : View) (t n : ℕ) (w : Walk) → Walked l v t n (ended w Kept w.place) []
+ended_walked : (l : List ℕ) (v : View) (t n : ℕ) (w : Walk) → Walked l v t n (ended w None w.place) []
 unfolding ended
 ended_walked l v t n w =
-    let u = ended w Kept w.place in
+    let u = ended w None w.place in
     let e = walk_ended l v t n u refl in
     record {
       rule = ap (λ z. z.rule) e;
@@ -132,7 +132,7 @@ module _ {v : View} {l : List ℕ} {ns : List Node} (r : Readable v l ns) (t : �
   after : (n : ℕ) (w u : Walk) (ms : List Node) → ((u : Walk) → Due ns (get_or ns u.place.0 blank).level u → suc (get_or ns u.place.0 blank).level ≡ n → Walked l v t n u (chase n t ns u.place.0))
       → Steps r t early n w ms u → Walked l v t n u ms × (u.entered ≡ w.entered + 1)
   unfolding ended counted
-  after n w u ms ih (ends e) = (subst (λ (z : List Node). Walked l v t n (ended (counted w) Kept w.place) z) (sym e) (ended_walked l v t n (counted w)), refl)
+  after n w u ms ih (ends e) = (subst (λ (z : List Node). Walked l v t n (ended (counted w) None w.place) z) (sym e) (ended_walked l v t n (counted w)), refl)
   after n w u ms ih (goes _ level d count e) = (subst (λ (z : List Node). Walked l v t n u z) (sym e) (ih u d level), count)
 
   node_walked : (n : ℕ) (w : Walk) (ms : List Node) → Due ns n w → Walked l v t n (step l v t n w) ms × ((step l v t n w).entered ≡ w.entered + 1)
@@ -161,7 +161,7 @@ module _ {v : View} {l : List ℕ} {ns : List Node} (r : Readable v l ns) (t : �
   unfolding root_of r5
   walked = walked_from (suc v.level) (root_of v) (record { go = refl; place = r.root; level = refl; fifth = refl }) (ap suc r.level)
 
-  pub breaks_none : (walk_of l v t).rule ≡ Kept
+  pub breaks_none : (walk_of l v t).rule ≡ None
   unfolding walk_of
   breaks_none = rw (add-one) walked.rule
 

@@ -13,7 +13,8 @@ use mir.Val.{SFits}
 use mir.Facts.{sfits_lit}
 use Rattle.layout.specs.declared.Shape.{Shape}
 use Rattle.layout.specs.Layout.{node_size, entry_size}
-use Rattle.record.specs.Record.{Branch, History}
+use Rattle.record.specs.declared.Branch.{Branch}
+use Rattle.record.specs.declared.History.{History}
 use Rattle.record.specs.Levels.{place_at, start_at}
 use Rattle.record.specs.Sound.{last_time, shape_allowed, numbers_sound, levels_sound, starts_fall, last_end_sound, branch_sound, sound, long_enough}
 use Rattle.record.proofs.Facts.{sound_shaped}

@@ -3,10 +3,8 @@ use Rattle.std.specs.Prelude.{ℕ, ◌≡◌, List, [], ◌∷◌, map, length}
 use Rattle.std.proofs.lemmas.List.Edits.{sets}
 use Rattle.layout.specs.Layout.{entry_bytes, spread}
 use Rattle.record.specs.Refusals.{number_of}
-use Rattle.questions.specs.declared.Single.{Single}
-use Rattle.full_question.specs.declared.Full.{Full}
-use Rattle.questions.specs.Single.{refused_single}
-use Rattle.full_question.specs.Full.{refused_full}
+use Rattle.questions.specs.Single.{Single, refused_single}
+use Rattle.full_question.specs.Full.{Full, refused_full}
 use Rattle.model.specs.Questions.{single, full}
 use Rattle.model.specs.Refusals.{refuse_single, refuse_full}
 use Rattle.model.specs.Theorems.{Run, left}

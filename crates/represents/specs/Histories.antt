@@ -2,7 +2,8 @@
 use Rattle.std.specs.Prelude.{ℕ, ◌+◌, ◌*◌, ◌/◌, ◌≤◌, ◌<◌, true, false, ◌≡◌, List, [], ◌∷◌, ◌++◌, length, drop}
 use Rattle.layout.specs.declared.Shape.{Shape}
 use Rattle.layout.specs.Layout.{node_size, entry_size}
-use Rattle.record.specs.Record.{Branch, History}
+use Rattle.record.specs.declared.Branch.{Branch}
+use Rattle.record.specs.declared.History.{History}
 use Rattle.record.specs.Levels.{place_at}
 use Rattle.record.specs.Sound.{last_time, shape_allowed}
 use Rattle.transient.specs.declared.Ongoing.{Ongoing}

@@ -1,6 +1,6 @@
 -- When a record and the two lent buffers stand for the history that a run of calls leaves, finished or not: all that a question on them needs.
 use Rattle.std.specs.Prelude.{ℕ, ◌<◌, ◌≡◌, true, false, List, ◌++◌, length}
-use Rattle.record.specs.Record.{History}
+use Rattle.record.specs.declared.History.{History}
 use Rattle.record.specs.Levels.{place_at}
 use Rattle.record.specs.Sound.{sound, long_enough}
 use Rattle.transient.specs.Transient.{ongoing_at}

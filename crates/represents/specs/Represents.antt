@@ -7,7 +7,8 @@ use Rattle.layout.specs.declared.Child.{Child}
 use Rattle.layout.specs.declared.Entry.{Entry}
 use Rattle.layout.specs.Layout as L
 use Rattle.layout.specs.Layout.{node_size, encode_all}
-use Rattle.record.specs.Record.{Branch, History}
+use Rattle.record.specs.declared.Branch.{Branch}
+use Rattle.record.specs.declared.History.{History}
 use Rattle.record.specs.Levels.{place_at, start_at, intervals_at, children_at, last_end_at}
 use Rattle.record.specs.Firm.{Long}
 use Rattle.build.specs.Moves.{Held}

@@ -1,9 +1,7 @@
 -- Several intervals one after the other, as finish stores them; the first of the list is the first stored. The model's lists have the latest first.
 use Rattle.std.specs.Prelude.{cond, List, [], ◌∷◌, ◌<◌}
-use Rattle.record.specs.Record.{History}
-use Rattle.record.specs.declared.Refusal.{Refusal}
-use Rattle.record.specs.declared.Refusal.TheVariants.{Nothing}
-use Rattle.record.specs.Refusals.{accepted}
+use Rattle.record.specs.declared.History.{History}
+use Rattle.record.specs.Refusals.{Reply, Nothing, accepted}
 use Rattle.build.specs.Moves.{Held}
 use Rattle.build.specs.Write.{inserted}
 use Rattle.build.specs.Trial.{tried}
@@ -12,7 +10,7 @@ use Rattle.model.specs.Nodes.{∞}
 use Rattle.represents.specs.Represents.{entry_of}
 
 -- "the first interval in quark order that breaks either decides, depth before room": on the record alone, each on what the earlier ones leave
-unfoldable pub tried_all : List Interval → History → Refusal
+unfoldable pub tried_all : List Interval → History → Reply
 tried_all [] h = Nothing
 tried_all (x ∷ later) h = let r = tried h x.start x.end in cond (accepted r.refusal) (tried_all later r.history) r.refusal
 

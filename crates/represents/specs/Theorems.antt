@@ -2,7 +2,7 @@
 use Rattle.std.specs.Prelude.{ℕ, ◌/◌, ◌<◌, true, false, not, ◌&&◌, ◌≡◌, List, [], ◌∷◌, leb, length}
 use Rattle.layout.specs.declared.Shape.{Shape}
 use Rattle.layout.specs.Layout.{entry_size}
-use Rattle.record.specs.Record.{History}
+use Rattle.record.specs.declared.History.{History}
 use Rattle.record.specs.Refusals.{number_of}
 use Rattle.record.specs.Sound.{last_time, shape_allowed, sound, long_enough}
 use Rattle.transient.specs.Transient.{ongoing_at, ongoing_sound}

@@ -4,43 +4,16 @@ use native.Mathlib.Nat.{zero-add}
 use native.Mathlib.Omega.{arith}
 use mathlib.Core.Path.{◌≡◌, refl, sym, ap, ◌∙◌, subst}
 use mathlib.Core.Bool.{Bool, true, false, cond, not, ◌&&◌}
-use mathlib.Core.List.{List}
 use mathlib.Core.Logic.{◌⊎◌, inl, inr, ⊎_elim}
 use lib.Dec.{ltb}
-use lib.ListN.{get_or}
 use borrow.Author.Tests.{le-ltb, lt-ltb, le-leb, lt-leb}
-use Rattle.layout.specs.declared.Shape.{Shape}
-use Rattle.record.specs.Record.{Branch, History, branch_of, record_of}
-use Rattle.record.specs.Levels.{children_at}
-use Rattle.record.proofs.Lies.{start_lies, intervals_lie, children_lie, last_end_lies}
-use Rattle.record.specs.declared.Refusal.TheVariants.{Nothing, Deep, NoRoom}
+use Rattle.record.specs.declared.Branch.{Branch}
+use Rattle.record.specs.declared.History.{History}
+use Rattle.record.specs.Levels.{start_at, children_at, last_end_at}
 use Rattle.settle.specs.declared.Plan.{Plan}
 use Rattle.settle.specs.declared.Verdict.{Verdict}
 use Rattle.settle.specs.declared.Verdict.TheVariants.{Here, Chain, Close}
-use Rattle.settle.specs.Settle.{fits, ruled, plan, followed, ask_up, lowest, settle, needed, plan_refusal}
-
--- ═══ Rules 1 and 2, as they are read in the array ═══
-
-module _ (w : List ℕ) (sh : Shape) (s l : ℕ) (child : Bool) (last : ℕ) (lt : l < 16) where
-  module _ (due : (not child && ltb 0 l && ltb last s) ≡ true) where
-    pub chain_ruled : get_or w (48 + l) 0 < sh.c → Chain ≡ ruled (branch_of w) sh s l child last
-    unfolding ruled
-    chain_ruled few = simp (due, children_lie w l lt, lt-ltb _ _ few)
-
-    pub full_ruled : sh.c ≤ get_or w (48 + l) 0 → Close ≡ ruled (branch_of w) sh s l child last
-    unfolding ruled
-    full_ruled all = simp (due, children_lie w l lt, le-ltb _ _ all)
-
-  module _ (due : (not child && ltb 0 l && ltb last s) ≡ false) where
-    pub here_ruled : get_or w (32 + l) 0 < sh.k → Here ≡ ruled (branch_of w) sh s l child last
-    unfolding ruled
-    here_ruled few = simp (due, intervals_lie w l lt, lt-ltb _ _ few)
-
-    pub close_ruled : sh.k ≤ get_or w (32 + l) 0 → Close ≡ ruled (branch_of w) sh s l child last
-    unfolding ruled
-    close_ruled all = simp (due, intervals_lie w l lt, le-ltb _ _ all)
-
-pub ruleset ruled-ways = (chain_ruled, full_ruled, here_ruled, close_ruled)
+use Rattle.settle.specs.Settle.{fits, ruled, plan, followed, ask_up, lowest, settle, needed}
 
 -- ═══ The question put to level l, with the verdict v ═══
 
@@ -116,23 +89,23 @@ module _ (h : History) (s : ℕ) where
 
 -- ═══ The search for the lowest level, from l on ═══
 
-module _ (w : List ℕ) (s l top a : ℕ) (inv : lowest (top - l) (branch_of w) s l ≡ a) (lt : l < top) (depth : top < 16) where
-  pub found : get_or w (16 + l) 0 ≤ s → l ≡ a
+module _ (b : Branch) (s l top a : ℕ) (inv : lowest (top - l) b s l ≡ a) where
+  pub found : l < top → start_at b l ≤ s → l ≡ a
   unfolding lowest
-  found le = let z : top - l ≡ suc (top - (l + 1)) = omega arith in simp (z, start_lies w l (omega arith), le-leb _ _ le) at inv
+  found lt le = let z : top - l ≡ suc (top - (l + 1)) = omega arith in simp (z, le-leb _ _ le) at inv
 
-  pub passed : s < get_or w (16 + l) 0 → lowest (top - (l + 1)) (branch_of w) s (l + 1) ≡ a
+  pub passed : l < top → s < start_at b l → lowest (top - (l + 1)) b s (l + 1) ≡ a
   unfolding lowest
-  passed gt = let z : top - l ≡ suc (top - (l + 1)) = omega arith in simp (z, start_lies w l (omega arith), lt-leb _ _ gt) at inv
+  passed lt gt = let z : top - l ≡ suc (top - (l + 1)) = omega arith in simp (z, lt-leb _ _ gt) at inv
 
-pub at_root : (b : Branch) (s l top a : ℕ) → lowest (top - l) b s l ≡ a → top ≤ l → l ≡ a
-unfolding lowest
-at_root b s l top a inv le = let z : top - l ≡ 0 = omega arith in simp z at inv
+  pub at_root : l ≡ top → top ≡ a
+  unfolding lowest
+  at_root e = let z : top - l ≡ 0 = omega arith in sym e ∙ (simp z at inv)
 
-pub settled : (sh : Shape) (w : List ℕ) (s l : ℕ) (r : Plan) → (l ≡ lowest (get_or w 86 0 - get_or w 85 0) (branch_of w) s (get_or w 85 0)) × (get_or w 85 0 ≤ l) × (l ≤ get_or w 86 0) × (get_or w 86 0 < 16)
-    → r ≡ ask_up (get_or w 86 0 - l) (record_of sh w) s l (ltb (get_or w 85 0) l) (get_or w (64 + l) 0) 0 → r ≡ settle (record_of sh w) s
+pub settled : (h : History) (s l : ℕ) (r : Plan) → l ≡ lowest (h.top - h.low) h.branch s h.low
+    → r ≡ ask_up (h.top - l) h s l (ltb h.low l) (last_end_at h.branch l) 0 → r ≡ settle h s
 unfolding settle
-settled sh w s l r p f = simp (← p.0, last_end_lies w l (omega (arith, p.2, p.3)), f)
+settled h s l r p f = simp (← p, f)
 
 -- ═══ Depth and room ═══
 
@@ -148,22 +121,3 @@ module _ (top : ℕ) (p : Plan) where
   pub chain : p.level ≤ top → p.chain ≡ true → p.level ≡ needed top p
   unfolding needed
   chain le e = simp (le-ltb _ _ le, e, zero-add)
-
-  pub neither : p.level ≤ top → p.chain ≡ false → 0 ≡ needed top p
-  unfolding needed
-  neither le e = simp (le-ltb _ _ le, e)
-
-pub deep : (h : History) (p : Plan) → 15 < p.level → Deep ≡ plan_refusal h p
-unfolding plan_refusal
-deep h p d = simp (lt-ltb _ _ d)
-
-module _ (h : History) (p : Plan) (low : p.level ≤ 15) (n : ℕ) (counted : n ≡ needed h.top p) where
-  pub full : h.shape.n - h.used < n → NoRoom ≡ plan_refusal h p
-  unfolding plan_refusal
-  full lt = simp (le-ltb _ _ low, ← counted, lt-ltb _ _ lt)
-
-  pub fine : n ≤ h.shape.n - h.used → Nothing ≡ plan_refusal h p
-  unfolding plan_refusal
-  fine le = simp (le-ltb _ _ low, ← counted, le-ltb _ _ le)
-
-pub ruleset answers = (deep, full, fine)

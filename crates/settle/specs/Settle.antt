@@ -1,10 +1,9 @@
 -- Where an interval goes: the build rule put to the record alone. Nothing changes here, so a refusal has nothing to undo.
 use Rattle.std.specs.Prelude.{ℕ, zero, suc, ◌+◌, ◌-◌, Bool, true, false, cond, not, ◌&&◌, [], ◌∷◌, leb, ltb}
 use Rattle.layout.specs.declared.Shape.{Shape}
-use Rattle.record.specs.Record.{Branch, History}
-use Rattle.record.specs.declared.Refusal.{Refusal}
-use Rattle.record.specs.declared.Refusal.TheVariants.{Deep, NoRoom}
-use Rattle.record.specs.Refusals.{first_of}
+use Rattle.record.specs.declared.Branch.{Branch}
+use Rattle.record.specs.declared.History.{History}
+use Rattle.record.specs.Refusals.{Reply, Deep, NoRoom, first_of}
 use Rattle.record.specs.Levels.{start_at, intervals_at, children_at, last_end_at}
 use Rattle.settle.specs.declared.Plan.{Plan}
 use Rattle.settle.specs.declared.Verdict.{Verdict}
@@ -74,5 +73,5 @@ abbrev pub no_room : History → Plan → Bool
 no_room h p = ltb (room h) (needed h.top p)
 
 -- depth before room
-unfoldable pub plan_refusal : History → Plan → Refusal
+unfoldable pub plan_refusal : History → Plan → Reply
 plan_refusal h p = first_of ((too_deep p, Deep) ∷ (no_room h p, NoRoom) ∷ [])

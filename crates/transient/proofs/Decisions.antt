@@ -1,13 +1,12 @@
 -- What `decide` gives, case by case, and what the new state is. Assumes nothing.
-use Rattle.std.proofs.Common.{◌≡◌, ℕ, ◌^◌, ◌<◌, ◌≤◌, Bool, true, false, cond, eqb, ℤ, pos, sym, refl, ap, subst, arith, w64, SFits, of_z, eqb-true}
+use Rattle.std.specs.Prelude.{Option, Some, None}
+use Rattle.std.proofs.Common.{◌≡◌, ℕ, ◌^◌, ◌<◌, ◌≤◌, Bool, true, false, cond, eqb, ℤ, pos, sym, refl, ap, ◌∙◌, subst, arith, w64, SFits, of_z, eqb-true}
 use lib.IntN.{suc_ℤ}
 use borrow.Author.Tests.{eqb-false}
 use mir.Facts.{sfits_lit}
 use Rattle.transient.specs.declared.Ongoing.{Ongoing}
 use Rattle.transient.specs.declared.Change.{Change}
 use Rattle.transient.specs.declared.Change.TheVariants.{Set, Remove, Increment}
-use Rattle.transient.specs.declared.Outcome.{Outcome}
-use Rattle.transient.specs.declared.Outcome.TheVariants.{To, Above}
 use Rattle.transient.specs.declared.Decision.{Decision}
 use Rattle.transient.specs.declared.Decision.TheVariants.{Top, Same, Replaced, Ended}
 use Rattle.transient.specs.Transient.{state_sound, increased, becomes, same_state, decided, decide, ongoing_sound, OngoingFits, ChangeFits}
@@ -19,10 +18,10 @@ no : {A : Type 0} → ◌≡◌ {A = ℕ} 0 1 → A
 no e = absurd (omega arith)
 
 -- what an increment leads to: 1 from null, one more, or nothing from 2^63-1 on
-data Increase (kind : ℕ) (value : ℤ) (r : Outcome) : Type 0 where
-  first : kind ≡ 0 → r ≡ To 1 (pos 1) → Increase kind value r
-  top : (kind ≡ 0 → ⊥) → of_z w64 value ≡ 9223372036854775807 → r ≡ Above → Increase kind value r
-  next : (kind ≡ 0 → ⊥) → (of_z w64 value ≡ 9223372036854775807 → ⊥) → r ≡ To 1 (suc_ℤ value) → Increase kind value r
+data Increase (kind : ℕ) (value : ℤ) (r : Option (ℕ × ℤ)) : Type 0 where
+  first : kind ≡ 0 → r ≡ Some (1, pos 1) → Increase kind value r
+  top : (kind ≡ 0 → ⊥) → of_z w64 value ≡ 9223372036854775807 → r ≡ None → Increase kind value r
+  next : (kind ≡ 0 → ⊥) → (of_z w64 value ≡ 9223372036854775807 → ⊥) → r ≡ Some (1, suc_ℤ value) → Increase kind value r
 
 increase : (kind : ℕ) (value : ℤ) → Increase kind value (increased kind value)
 increase kind value = go (eqb kind 0) refl (eqb (of_z w64 value) 9223372036854775807) refl
@@ -32,34 +31,38 @@ increase kind value = go (eqb kind 0) refl (eqb (of_z w64 value) 922337203685477
     go false k true v = let h = eqb-false kind 0 k in let e = eqb-true (of_z w64 value) 9223372036854775807 v in top h e (sym (at_top kind value h e))
     go false k false v = let h = eqb-false kind 0 k in let e = eqb-false (of_z w64 value) 9223372036854775807 v in next h e (sym (raised kind value (suc_ℤ value) h e refl))
 
+-- two states that are the same have the same kind and value
+told : (k l : ℕ) (v w : ℤ) → ◌≡◌ {A = Option (ℕ × ℤ)} (Some (k, v)) (Some (l, w)) → (k ≡ l) × (v ≡ w)
+told k l v w e = let p : ◌≡◌ {A = ℕ × ℤ} (k, v) (l, w) = cc in (ap (λ (x : ℕ × ℤ). x.0) p, ap (λ (x : ℕ × ℤ). x.1) p)
+
 -- ---- what a change leads to
 
 -- the new state is sound, whatever the old one was
-pub becomes_sound : (change : Change) (kind : ℕ) (value : ℤ) (k : ℕ) (v : ℤ) → becomes change kind value ≡ To k v → state_sound k v ≡ true
+pub becomes_sound : (change : Change) (kind : ℕ) (value : ℤ) (k : ℕ) (v : ℤ) → becomes change kind value ≡ Some (k, v) → state_sound k v ≡ true
 unfolding becomes
-becomes_sound (Set w) kind value k v e = number_sound k v (cc)
-becomes_sound Remove kind value k v e = null_sound k v (cc) (cc)
+becomes_sound (Set w) kind value k v e = number_sound k v (sym (told _ _ _ _ e).0)
+becomes_sound Remove kind value k v e = let p = told _ _ _ _ e in null_sound k v (sym p.0) (sym p.1)
 becomes_sound Increment kind value k v e = go (increase kind value)
   where
     go : Increase kind value (increased kind value) → state_sound k v ≡ true
-    go (first h r) = number_sound k v (cc)
+    go (first h r) = number_sound k v (sym (told _ _ _ _ (sym r ∙ e)).0)
     go (top h t r) = no (cc)
-    go (next h t r) = number_sound k v (cc)
+    go (next h t r) = number_sound k v (sym (told _ _ _ _ (sym r ∙ e)).0)
 
 -- and fits
-pub becomes_fits : (change : Change) (kind : ℕ) (value : ℤ) (k : ℕ) (v : ℤ) → ChangeFits change → SFits w64 value → becomes change kind value ≡ To k v → (k < 2) × SFits w64 v
+pub becomes_fits : (change : Change) (kind : ℕ) (value : ℤ) (k : ℕ) (v : ℤ) → ChangeFits change → SFits w64 value → becomes change kind value ≡ Some (k, v) → (k < 2) × SFits w64 v
 unfolding becomes
-becomes_fits (Set w) kind value k v f g e = let a : k ≡ 1 = cc in let b : w ≡ v = cc in (omega arith, subst (SFits w64) b (f.value w refl))
-becomes_fits Remove kind value k v f g e = let a : k ≡ 0 = cc in let b : pos 0 ≡ v = cc in (omega arith, subst (SFits w64) b (sfits_lit tt))
+becomes_fits (Set w) kind value k v f g e = let p = told _ _ _ _ e in (omega (arith, p.0), subst (SFits w64) p.1 (f.value w refl))
+becomes_fits Remove kind value k v f g e = let p = told _ _ _ _ e in (omega (arith, p.0), subst (SFits w64) p.1 (sfits_lit tt))
 becomes_fits Increment kind value k v f g e = go (increase kind value)
   where
     go : Increase kind value (increased kind value) → (k < 2) × SFits w64 v
-    go (first h r) = let a : k ≡ 1 = cc in let b : pos 1 ≡ v = cc in (omega arith, subst (SFits w64) b (sfits_lit tt))
+    go (first h r) = let p = told _ _ _ _ (sym r ∙ e) in (omega (arith, p.0), subst (SFits w64) p.1 (sfits_lit tt))
     go (top h t r) = no (cc)
-    go (next h t r) = let a : k ≡ 1 = cc in let b : suc_ℤ value ≡ v = cc in (omega arith, subst (SFits w64) b (fits_one value g t))
+    go (next h t r) = let p = told _ _ _ _ (sym r ∙ e) in (omega (arith, p.0), subst (SFits w64) p.1 (fits_one value g t))
 
 -- nothing comes of a change only where it would pass 2^63-1
-pub above_only : (change : Change) (kind : ℕ) (value : ℤ) → SFits w64 value → becomes change kind value ≡ Above → (change ≡ Increment) × (kind ≡ 0 → ⊥) × (value ≡ pos 9223372036854775807)
+pub above_only : (change : Change) (kind : ℕ) (value : ℤ) → SFits w64 value → becomes change kind value ≡ None → (change ≡ Increment) × (kind ≡ 0 → ⊥) × (value ≡ pos 9223372036854775807)
 unfolding becomes
 above_only (Set w) kind value f e = no (cc)
 above_only Remove kind value f e = no (cc)
@@ -75,10 +78,10 @@ above_only Increment kind value f e = go (increase kind value)
 module _ (o : Ongoing) (t : ℕ) (change : Change) where
   pub decides_top : change ≡ Increment → (o.kind ≡ 0 → ⊥) → o.value ≡ pos 9223372036854775807 → decide o t change ≡ Top
   decides_top c k v =
-      let e : Above ≡ becomes change o.kind o.value = increments change o.kind o.value Above o.value refl c (at_top o.kind o.value k (ap (of_z w64) v)) in
-      sym (to_top o t change Above o.value refl e refl)
+      let e : None ≡ becomes change o.kind o.value = increments change o.kind o.value None o.value refl c (at_top o.kind o.value k (ap (of_z w64) v)) in
+      sym (to_top o t change None o.value refl e refl)
 
-  module _ (kind : ℕ) (value : ℤ) (to : becomes change o.kind o.value ≡ To kind value) where
+  module _ (kind : ℕ) (value : ℤ) (to : becomes change o.kind o.value ≡ Some (kind, value)) where
     pub decides_same : kind ≡ o.kind → value ≡ o.value → decide o t change ≡ Same
     decides_same k v = sym (to_same o t change (becomes change o.kind o.value) o.value refl refl kind value to (is_same kind value o k v))
 
@@ -92,28 +95,28 @@ module _ (o : Ongoing) (t : ℕ) (change : Change) where
 -- ---- what holds, from the decision
 
 -- the four ways through `decide`
-data Way (o : Ongoing) (t : ℕ) (r : Outcome) (d : Decision) : Type 0 where
-  tops : r ≡ Above → d ≡ Top → Way o t r d
-  stays : (kind : ℕ) (value : ℤ) → r ≡ To kind value → same_state kind value o ≡ true → d ≡ Same → Way o t r d
-  moves : (kind : ℕ) (value : ℤ) → r ≡ To kind value → same_state kind value o ≡ false → o.start ≡ t → d ≡ Replaced (record { kind = kind; value = value; start = t }) → Way o t r d
-  closes : (kind : ℕ) (value : ℤ) → r ≡ To kind value → same_state kind value o ≡ false → (o.start ≡ t → ⊥) → d ≡ Ended (record { kind = kind; value = value; start = t }) → Way o t r d
+data Way (o : Ongoing) (t : ℕ) (r : Option (ℕ × ℤ)) (d : Decision) : Type 0 where
+  tops : r ≡ None → d ≡ Top → Way o t r d
+  stays : (kind : ℕ) (value : ℤ) → r ≡ Some (kind, value) → same_state kind value o ≡ true → d ≡ Same → Way o t r d
+  moves : (kind : ℕ) (value : ℤ) → r ≡ Some (kind, value) → same_state kind value o ≡ false → o.start ≡ t → d ≡ Replaced (record { kind = kind; value = value; start = t }) → Way o t r d
+  closes : (kind : ℕ) (value : ℤ) → r ≡ Some (kind, value) → same_state kind value o ≡ false → (o.start ≡ t → ⊥) → d ≡ Ended (record { kind = kind; value = value; start = t }) → Way o t r d
 
-way : (o : Ongoing) (t : ℕ) (r : Outcome) → Way o t r (decided r o t)
+way : (o : Ongoing) (t : ℕ) (r : Option (ℕ × ℤ)) → Way o t r (decided r o t)
 unfolding decided
-way o t Above = tops refl refl
-way o t (To kind value) = go (same_state kind value o) refl (eqb o.start t) refl
+way o t None = tops refl refl
+way o t (Some (kind, value)) = go (same_state kind value o) refl (eqb o.start t) refl
   where
     n : Ongoing
     n = record { kind = kind; value = value; start = t }
 
-    go : (a : Bool) → same_state kind value o ≡ a → (b : Bool) → eqb o.start t ≡ b → Way o t (To kind value) (cond (same_state kind value o) Same (cond (eqb o.start t) (Replaced n) (Ended n)))
+    go : (a : Bool) → same_state kind value o ≡ a → (b : Bool) → eqb o.start t ≡ b → Way o t (Some (kind, value)) (cond (same_state kind value o) Same (cond (eqb o.start t) (Replaced n) (Ended n)))
     go true e b h = stays kind value refl e (rw e)
     go false e true h = moves kind value refl e (eqb-true o.start t h) (rw (e, h))
     go false e false h = closes kind value refl e (eqb-false o.start t h) (rw (e, h))
 
 -- the new state n, if there is one: what the change makes of the old one, another state, from t on
 pub record Follows (o : Ongoing) (t : ℕ) (change : Change) (n : Ongoing) : Type 0 where
-  pub to : becomes change o.kind o.value ≡ To n.kind n.value
+  pub to : becomes change o.kind o.value ≡ Some (n.kind, n.value)
   pub other : same_state n.kind n.value o ≡ false
   pub start : n.start ≡ t
 
@@ -131,17 +134,17 @@ module _ (o : Ongoing) (t : ℕ) (change : Change) where
       go (moves k v r s h d) = no (cc)
       go (closes k v r s h d) = no (cc)
 
-  pub same_only : ChangeFits change → SFits w64 o.value → decide o t change ≡ Same → becomes change o.kind o.value ≡ To o.kind o.value
+  pub same_only : ChangeFits change → SFits w64 o.value → decide o t change ≡ Same → becomes change o.kind o.value ≡ Some (o.kind, o.value)
   same_only f g e = go ways
     where
-      go : Way o t (becomes change o.kind o.value) (decide o t change) → becomes change o.kind o.value ≡ To o.kind o.value
+      go : Way o t (becomes change o.kind o.value) (decide o t change) → becomes change o.kind o.value ≡ Some (o.kind, o.value)
       go (tops r d) = no (cc)
       go (stays k v r s d) = let p = same_is k v o (becomes_fits change o.kind o.value k v f g r).1 g s in let a = p.0 in let b = p.1 in cc
       go (moves k v r s h d) = no (cc)
       go (closes k v r s h d) = no (cc)
 
   module _ (n : Ongoing) where
-    follows : (k : ℕ) (v : ℤ) → becomes change o.kind o.value ≡ To k v → same_state k v o ≡ false → record { kind = k; value = v; start = t } ≡ n → Follows o t change n
+    follows : (k : ℕ) (v : ℤ) → becomes change o.kind o.value ≡ Some (k, v) → same_state k v o ≡ false → record { kind = k; value = v; start = t } ≡ n → Follows o t change n
     follows k v r s e = subst (Follows o t change) e (record { to = r; other = s; start = refl })
 
     pub replaced_only : decide o t change ≡ Replaced n → (o.start ≡ t) × Follows o t change n

@@ -1,5 +1,5 @@
 -- What a sound state is, in words. Assumes nothing.
-use Rattle.std.proofs.Common.{◌≡◌, ℕ, zero, suc, ◌+◌, ◌-◌, ◌%◌, ◌^◌, ◌<◌, ◌≤◌, Bool, true, false, ◌&&◌, ◌||◌, T, eqb, leb, ◌⊎◌, ℤ, pos, sym, refl, ap, ◌∙◌, subst, inl, inr, mod-eq_of_lt, arith, lit<, w64, SFits, of_z, eq-eqb, ne_eqb, eqb-true, le-leb, leb-false, leb-true}
+use Rattle.std.proofs.Common.{◌≡◌, ℕ, zero, suc, ◌+◌, ◌-◌, ◌%◌, ◌^◌, ◌<◌, ◌≤◌, Bool, true, false, ◌&&◌, ◌||◌, T, eqb, leb, ◌⊎◌, ℤ, pos, sym, refl, ap, ◌∙◌, subst, inl, inr, mod-eq_of_lt, arith, lit<, w64, SFits, of_z, eq-eqb, ne_eqb, eqb-true, le-leb, leb-true}
 use lib.Bits.{bit_and, and_zero_r, and_mask}
 use mir.Facts.{sfits_lit}
 use Rattle.transient.specs.declared.Ongoing.{Ongoing}
@@ -52,13 +52,6 @@ state_masked (suc (suc kind)) b m v is fits small wraps known = absurd (omega (a
 pub kind_bad : (kind : ℕ) (v : ℤ) → 1 < kind → state_sound kind v ≡ false
 unfolding state_sound
 kind_bad kind v h = rw (ne_eqb kind 0 (λ z. omega (arith, z)), ne_eqb kind 1 (λ z. omega (arith, z)))
-
-pub state_tested : (kind x : ℕ) (v : ℤ) → (kind ≤ 1 → eqb x 0 ≡ state_sound kind v) → (leb kind 1 && eqb x 0) ≡ state_sound kind v
-state_tested kind x v is = go (leb kind 1) refl
-  where
-    go : (b : Bool) → leb kind 1 ≡ b → (b && eqb x 0) ≡ state_sound kind v
-    go true e = is (leb-true kind 1 e)
-    go false e = sym (kind_bad kind v (leb-false kind 1 e))
 
 -- ---- an entry of the table
 

@@ -1,25 +1,14 @@
 -- The ongoing table: an entry read, an entry written, read back, and the others as they were. Assumes nothing.
-use Rattle.std.proofs.Common.{◌≡◌, ℕ, ◌+◌, ◌*◌, ◌/◌, ◌^◌, ◌<◌, ◌≤◌, Bool, true, false, ltb, List, length, get_or, ℤ, refl, ap, arith, lit<, ltb-false, ltb-true}
+use Rattle.std.proofs.Common.{◌≡◌, ℕ, ◌+◌, ◌*◌, ◌/◌, ◌^◌, ◌<◌, ◌≤◌, Bool, true, false, ltb, List, length, get_or, refl, ap, arith, lit<, ltb-false, ltb-true}
 use lib.Seq.{sets, length-sets}
 use Rattle.words.proofs.Stores.{get_or_sets_below, get_or_sets_above}
 use Rattle.layout.specs.declared.Entry.{Entry}
 use Rattle.layout.specs.declared.Quark.{Quark}
-use Rattle.layout.specs.Layout.{entry_size, entry_bytes, read_entry, EntryFits}
+use Rattle.layout.specs.Layout.{entry_size, entry_bytes, EntryFits}
 use Rattle.layout.proofs.Parts.{length_entry}
 use Rattle.layout.proofs.Back.{entry_back, entry_same, entry_fits_lem}
 use Rattle.transient.specs.declared.Ongoing.{Ongoing}
 use Rattle.transient.specs.Transient.{table_at, ongoing_end, ongoing_at, interval, with_ongoing, OngoingFits}
-
--- ---- what the code does
-
-pub ongoing_read : (l : List ℕ) (q : ℕ) (e : Entry) (v : ℤ) → v ≡ e.value → e ≡ read_entry l (table_at q)
-    → record { kind = e.kind; value = v; start = e.start } ≡ ongoing_at l q
-unfolding ongoing_at
-ongoing_read l q e v b p = simp (b, p)
-
-pub ongoing_put : (l m : List ℕ) (q : Quark) (o : Ongoing) (e : Entry) → e ≡ interval q o ongoing_end → m ≡ sets l (table_at q.0) (entry_bytes e) → m ≡ with_ongoing l q o
-unfolding with_ongoing
-ongoing_put l m q o e p h = simp (h, p)
 
 -- an entry's three numbers that are a state
 abbrev state : Entry → Ongoing

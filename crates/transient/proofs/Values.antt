@@ -32,10 +32,3 @@ plus_one (negsuc (suc n)) f e = rw (+ℤ_one (negsuc (suc n))) (omega arith)
 -- below 2^63-1 the next value fits
 pub fits_one : (v : ℤ) → SFits w64 v → (of_z w64 v ≡ 9223372036854775807 → ⊥) → SFits w64 (suc_ℤ v)
 fits_one v f e = subst (SFits w64) (+ℤ_one v) (plus_one v f e)
-
--- z is v read back from its bits, as code has it
-pub add_one_fits : (v z : ℤ) → z ≡ v → SFits w64 v → (of_z w64 v ≡ 9223372036854775807 → ⊥) → SFits w64 (z +ℤ pos 1)
-add_one_fits v z p f e = subst (λ (k : ℤ). SFits w64 (k +ℤ pos 1)) (sym p) (plus_one v f e)
-
-pub one_more : (v z : ℤ) → z ≡ v → SFits w64 v → (of_z w64 v ≡ 9223372036854775807 → ⊥) → to_z w64 (of_z w64 (z +ℤ pos 1)) ≡ suc_ℤ v
-one_more v z p f e = to_z-of_z (add_one_fits v z p f e) ∙ ap (λ (k : ℤ). k +ℤ pos 1) p ∙ +ℤ_one v

@@ -1,5 +1,5 @@
 -- An attribute's ongoing state and what a change does to it. Document 01, "From changes to intervals".
-use Rattle.std.specs.Prelude.{◌≡◌, ℕ, ◌*◌, ◌^◌, ◌<◌, Bool, cond, ◌&&◌, ◌||◌, List, ℤ, pos, FitsSigned, ◌==◌, nat_le}
+use Rattle.std.specs.Prelude.{◌≡◌, ℕ, ◌*◌, ◌^◌, ◌<◌, Bool, cond, ◌&&◌, ◌||◌, List, ℤ, pos, FitsSigned, ◌==◌, nat_le, Option, Some, None}
 use Rattle.std.proofs.Math.IntN.{suc_ℤ}
 use Rattle.std.proofs.lemmas.List.Edits.{sets}
 use Rattle.std.specs.Int.{w64}
@@ -10,8 +10,6 @@ use Rattle.layout.specs.Layout.{entry_size, entry_bytes, read_entry}
 use Rattle.transient.specs.declared.Ongoing.{Ongoing}
 use Rattle.transient.specs.declared.Change.{Change}
 use Rattle.transient.specs.declared.Change.TheVariants.{Set, Remove, Increment}
-use Rattle.transient.specs.declared.Outcome.{Outcome}
-use Rattle.transient.specs.declared.Outcome.TheVariants.{To, Above}
 use Rattle.transient.specs.declared.Decision.{Decision}
 use Rattle.transient.specs.declared.Decision.TheVariants.{Top, Same, Replaced, Ended}
 
@@ -54,14 +52,14 @@ ongoing_sound o start latest = state_sound o.kind o.value && nat_le start o.star
 
 -- ═══ A change ═══
 
--- "increment (adds 1, null counts as 0)"; 9: "increment of 2^63-1"
-unfoldable pub increased : ℕ → ℤ → Outcome
-increased kind value = cond (kind == 0) (To 1 (pos 1)) (cond (of_z w64 value == 9223372036854775807) Above (To 1 (suc_ℤ value)))
+-- "increment (adds 1, null counts as 0)": kind and value; 9: "increment of 2^63-1"
+unfoldable pub increased : ℕ → ℤ → Option (ℕ × ℤ)
+increased kind value = cond (kind == 0) (Some (1, pos 1)) (cond (of_z w64 value == 9223372036854775807) None (Some (1, suc_ℤ value)))
 
 -- "Calls: set; remove (becomes null); increment"
-unfoldable pub becomes : Change → ℕ → ℤ → Outcome
-becomes (Set v) kind value = To 1 v
-becomes Remove kind value = To 0 (pos 0)
+unfoldable pub becomes : Change → ℕ → ℤ → Option (ℕ × ℤ)
+becomes (Set v) kind value = Some (1, v)
+becomes Remove kind value = Some (0, pos 0)
 becomes Increment kind value = increased kind value
 
 -- "If kind and value equal the ongoing ones, nothing else happens."
@@ -70,9 +68,9 @@ same_state kind value o = kind == o.kind && same_value value o.value
 
 -- "If the ongoing start is t, the value is replaced and nothing is stored. Otherwise the interval from the ongoing start to t-1, ends included, is stored
 -- and the new state is ongoing from t."
-unfoldable pub decided : Outcome → Ongoing → ℕ → Decision
-decided Above o t = Top
-decided (To kind value) o t =
+unfoldable pub decided : Option (ℕ × ℤ) → Ongoing → ℕ → Decision
+decided None o t = Top
+decided (Some (kind, value)) o t =
     let next : Ongoing = record { kind = kind; value = value; start = t } in cond (same_state kind value o) Same (cond (o.start == t) (Replaced next) (Ended next))
 
 unfoldable pub decide : Ongoing → ℕ → Change → Decision

@@ -1,5 +1,5 @@
 -- R6 of an entry, as the questions test it: its times counted from the node's start on or compared, its kind and value with those before, bit by bit. Assumes nothing.
-use Rattle.std.proofs.Common.{◌≡◌, ℕ, zero, suc, ◌+◌, ◌-◌, ◌%◌, ◌<◌, ◌≤◌, Bool, true, false, cond, not, ◌&&◌, eqb, ltb, leb, ℤ, sym, refl, ap, ◌∙◌, arith, ltb-true, lt-ltb, ne_eqb, le-leb, leb-false, leb-true}
+use Rattle.std.proofs.Common.{◌≡◌, ℕ, zero, suc, ◌+◌, ◌-◌, ◌<◌, ◌≤◌, Bool, true, false, not, ◌&&◌, eqb, ltb, leb, ℤ, sym, refl, ap, ◌∙◌, arith, ltb-true, ne_eqb, le-leb, leb-false, leb-true}
 use lib.Bits.{bit_or, and_le_l, and_le_r, or_lt, or_add_and}
 use borrow.Author.Tests.{lt-leb, not-false}
 use Rattle.layout.specs.declared.Entry.{Entry}
@@ -21,14 +21,6 @@ module _ (start x : ℕ) where
   unfolding since
   since_before h = rw (lt-leb start x h)
 
-  pub since_done : (r : ℕ) → r ≤ 18446744073709551615 → start ≤ 18446744073709551615 → (r + start) % 18446744073709551616 ≡ x → r ≡ since start x
-  unfolding since
-  since_done r h k e = go (leb start x) refl
-    where
-      go : (b : Bool) → leb start x ≡ b → r ≡ cond b (x - start) (x + 18446744073709551616 - start)
-      go true g = let f = leb-true start x g in omega arith
-      go false g = let f = leb-false start x g in omega arith
-
 -- ---- all but its kind and value
 
 record Fits (a start end : ℕ) (e : Entry) : Type 0 where
@@ -49,66 +41,6 @@ module _ (a start end : ℕ) (e : Entry) where
         from = leb-true _ _ (and_right (ltb e.quark.0 a && leb e.start e.end) _ f);
         to = leb-true _ _ (and_right (ltb e.quark.0 a && leb e.start e.end && leb start e.start) _ y);
       }
-
-  fits_made : Fits a start end e → true ≡ entry_fits a start end e
-  unfolding entry_fits
-  fits_made f = rw (lt-ltb e.quark.0 a f.known, le-leb e.start e.end f.order, le-leb start e.start f.from, le-leb e.end end f.to)
-
-  fits_not : (Fits a start end e → ⊥) → false ≡ entry_fits a start end e
-  fits_not n = go (entry_fits a start end e) refl
-    where
-      go : (b : Bool) → entry_fits a start end e ≡ b → false ≡ b
-      go true y = absurd (n (fits_facts y))
-      go false y = refl
-
-  pub fits_end : end < e.end → false ≡ entry_fits a start end e
-  fits_end h = fits_not (λ f. omega (arith, f.to))
-
-  pub fits_start : e.start < start → false ≡ entry_fits a start end e
-  fits_start h = fits_not (λ f. omega (arith, f.from))
-
-  pub fits_last : e.quark.0 < a → e.end ≤ end → start ≤ e.start → leb e.start e.end ≡ entry_fits a start end e
-  unfolding entry_fits
-  fits_last known to from = go (leb e.start e.end) refl
-    where
-      go : (b : Bool) → leb e.start e.end ≡ b → b ≡ entry_fits a start end e
-      go true y = fits_made (record { known = known; order = leb-true e.start e.end y; from = from; to = to })
-      go false y = let l = leb-false e.start e.end y in fits_not (λ f. omega (arith, f.order))
-
-  pub fits_quark : a ≤ e.quark.0 → false ≡ entry_fits a start end e
-  fits_quark h = fits_not (λ f. omega (arith, f.known))
-
-module _ (a start span : ℕ) (e : Entry) (room : start + span ≤ 18446744073709551615) (last : e.end ≤ 18446744073709551615) (to : ℕ) (ends : to ≡ since start e.end) where
-  pub fits_late : span < to → false ≡ entry_fits a start (start + span) e
-  fits_late h = fits_not a start (start + span) e (λ f. let g : e.end - start ≡ to = sym (ends ∙ since_from start e.end (omega (arith, f.from, f.order))) in omega (arith, f.to, f.from, f.order))
-
-  pub fits_order : (from : ℕ) → from ≡ since start e.start → e.quark.0 < a → to ≤ span → leb from to ≡ entry_fits a start (start + span) e
-  fits_order from starts known h = go (leb from to) refl (leb start e.start) refl (leb start e.end) refl
-    where
-      go : (b : Bool) → leb from to ≡ b → (u : Bool) → leb start e.start ≡ u → (w : Bool) → leb start e.end ≡ w → b ≡ entry_fits a start (start + span) e
-      go b y u v false z =
-          let l : e.end < start = leb-false start e.end z in
-          let k = since_before start e.end l in
-          absurd (omega arith)
-      go true y true v true z =
-          let l : start ≤ e.end = leb-true start e.end z in
-          let n : start ≤ e.start = leb-true start e.start v in
-          let o : from ≤ to = leb-true from to y in
-          let k = since_from start e.end l in
-          let m = since_from start e.start n in
-          fits_made a start (start + span) e (record { known = known; order = omega arith; from = n; to = omega arith })
-      go true y false v true z =
-          let l : start ≤ e.end = leb-true start e.end z in
-          let n : e.start < start = leb-false start e.start v in
-          let o : from ≤ to = leb-true from to y in
-          let k = since_from start e.end l in
-          let m = since_before start e.start n in
-          absurd (omega arith)
-      go false y u v true z =
-          let l : start ≤ e.end = leb-true start e.end z in
-          let o : to < from = leb-false from to y in
-          let k = since_from start e.end l in
-          fits_not a start (start + span) e (λ f. let m = since_from start e.start f.from in omega (arith, f.order, f.from))
 
 -- ---- its kind and value with those before, bit by bit
 

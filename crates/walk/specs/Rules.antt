@@ -1,12 +1,12 @@
 -- R1 to R6 of one node that is entered: document 01, "A node entered must satisfy".
-use Rattle.std.specs.Prelude.{ℕ, Bool, true, false, cond, not, ◌&&◌, ◌||◌, ◌==◌, nat_le, nat_lt}
+use Rattle.std.specs.Prelude.{ℕ, Bool, cond, not, ◌&&◌, ◌||◌, ◌==◌, nat_le, nat_lt, Option, Some, None, is_none}
 use Rattle.layout.specs.declared.Header.{Header}
 use Rattle.layout.specs.declared.Entry.{Entry}
 use Rattle.transient.specs.Transient.{state_sound}
 use Rattle.walk.specs.declared.View.{View}
 use Rattle.walk.specs.declared.Walk.{Walk}
 use Rattle.walk.specs.declared.Rule.{Rule}
-use Rattle.walk.specs.declared.Rule.TheVariants.{Kept, R1, R2, R3, R4, R5, R6}
+use Rattle.walk.specs.declared.Rule.TheVariants.{R1, R2, R3, R4, R5}
 
 -- "R1 sequence is its place, below the used count"
 unfoldable pub r1 : View → Walk → Header → Bool
@@ -28,18 +28,13 @@ r4 v h = nat_le h.intervals v.shape.k && nat_le h.children v.shape.c && (not (h.
 unfoldable pub r5 : Walk → Header → Bool
 r5 w h = w.root || (h.start == w.start && nat_le h.end w.end)
 
--- the lowest of R1 to R5 that a header breaks
-unfoldable pub broken : View → Walk → ℕ → Header → Rule
-broken v w level h = cond (r1 v w h) (cond (r2 level h) (cond (r3 h) (cond (r4 v h) (cond (r5 w h) Kept R5) R4) R3) R2) R1
+-- the lowest of R1 to R5 that a header breaks, if it breaks any
+unfoldable pub broken : View → Walk → ℕ → Header → Option Rule
+broken v w level h = cond (r1 v w h) (cond (r2 level h) (cond (r3 h) (cond (r4 v h) (cond (r5 w h) None (Some R5)) (Some R4)) (Some R3)) (Some R2)) (Some R1)
 
-abbrev pub kept : Rule → Bool
-kept Kept = true
-kept R1 = false
-kept R2 = false
-kept R3 = false
-kept R4 = false
-kept R5 = false
-kept R6 = false
+-- no rule is broken
+abbrev pub kept : Option Rule → Bool
+kept rule = is_none rule
 
 -- "R6 each used interval has a known quark, kind 0 (value 0) or 1, start not after end, inside the node"
 unfoldable pub entry_sound : ℕ → Header → Entry → Bool

@@ -1,7 +1,7 @@
 -- What a question knows of a history besides its bytes.
 use Rattle.std.specs.Prelude.{ℕ, ◌*◌, ◌/◌, ◌<◌, ◌≤◌, Bool, ◌&&◌, ◌||◌, List, length, nat_le, nat_lt}
 use Rattle.layout.specs.Layout.{node_size, entry_size}
-use Rattle.record.specs.Record.{History}
+use Rattle.record.specs.declared.History.{History}
 use Rattle.record.specs.Levels.{seq_at}
 use Rattle.record.specs.Sound.{last_time, shape_allowed}
 use Rattle.record.specs.Firm.{Shaped}

@@ -1,5 +1,5 @@
 -- The walk from the root, on any bytes: document 01, "Otherwise it walks from the root".
-use Rattle.std.specs.Prelude.{ℕ, zero, suc, ◌+◌, ◌-◌, ◌*◌, Bool, true, false, cond, ◌&&◌, List, ◌==◌, nat_le, nat_lt}
+use Rattle.std.specs.Prelude.{ℕ, zero, suc, ◌+◌, ◌*◌, Bool, true, false, cond, ◌&&◌, List, nat_le, nat_lt, Option, Some, None}
 use Rattle.layout.specs.declared.Child.{Child}
 use Rattle.layout.specs.declared.Header.{Header}
 use Rattle.layout.specs.declared.Seq.{Seq}
@@ -7,7 +7,7 @@ use Rattle.layout.specs.Layout.{child_size, entry_size, node_size, child_at, ent
 use Rattle.walk.specs.declared.View.{View}
 use Rattle.walk.specs.declared.Walk.{Walk}
 use Rattle.walk.specs.declared.Rule.{Rule}
-use Rattle.walk.specs.declared.Rule.TheVariants.{Kept, R1, R6}
+use Rattle.walk.specs.declared.Rule.TheVariants.{R1, R6}
 use Rattle.walk.specs.Rules.{broken, kept, entry_sound, holds}
 
 -- "Node i stands at i times the node size."
@@ -18,10 +18,10 @@ place_of v s = s.0 * node_size v.shape
 
 -- at the root
 unfoldable pub root_of : View → Walk
-root_of v = record { go = true; rule = Kept; place = v.root; root = true; start = 0; end = 0; entered = 0 }
+root_of v = record { go = true; rule = None; place = v.root; root = true; start = 0; end = 0; entered = 0 }
 
--- it has ended: well (`Kept`), or since the node at `place` breaks a rule
-unfoldable pub ended : Walk → Rule → Seq → Walk
+-- it has ended: well (`None`), or since the node at `place` breaks a rule
+unfoldable pub ended : Walk → Option Rule → Seq → Walk
 ended w rule place = record { go = false; rule = rule; place = place; root = w.root; start = w.start; end = w.end; entered = w.entered }
 
 -- one more node was entered
@@ -30,7 +30,7 @@ counted w = record { go = w.go; rule = w.rule; place = w.place; root = w.root; s
 
 -- at a child, under a parent with this end
 unfoldable pub onward : Walk → Child → ℕ → Walk
-onward w c end = record { go = true; rule = Kept; place = c.sequence; root = false; start = c.start; end = end; entered = w.entered }
+onward w c end = record { go = true; rule = None; place = c.sequence; root = false; start = c.start; end = end; entered = w.entered }
 
 -- ═══ One node ═══
 
@@ -39,31 +39,32 @@ unfoldable pub all_sound : List ℕ → ℕ → Header → ℕ → ℕ → Bool 
 all_sound l attributes h p zero b = b
 all_sound l attributes h p (suc n) b = all_sound l attributes h (p + entry_size) n (b && entry_sound attributes h (read_entry l p))
 
--- "take the last child entry with start at or below t": of the n entries from byte p on, the first of them the i-th, one more than the number of the last
--- by position, else k
-unfoldable pub pick : List ℕ → ℕ → ℕ → ℕ → ℕ → ℕ → ℕ
+-- "take the last child entry with start at or below t": of the n entries from byte p on, the first of them the i-th, the number of the last by position,
+-- else k
+unfoldable pub pick : List ℕ → ℕ → ℕ → ℕ → ℕ → Option ℕ → Option ℕ
 pick l t p i zero k = k
-pick l t p i (suc n) k = pick l t (p + child_size) (i + 1) n (cond (nat_le (read_child l p).start t) (i + 1) k)
+pick l t p i (suc n) k = pick l t (p + child_size) (i + 1) n (cond (nat_le (read_child l p).start t) (Some i) k)
 
 -- "and go on if that child's bounds hold t": "a child's place is tested against the used count before its header is read"
 unfoldable pub child : List ℕ → View → ℕ → ℕ → Child → Walk → Walk
 child l v t end c w =
     cond (nat_lt c.sequence.0 v.used)
-    (cond (holds t (read_header l (place_of v c.sequence))) (onward w c end) (ended w Kept w.place))
-    (ended w R1 c.sequence)
+    (cond (holds t (read_header l (place_of v c.sequence))) (onward w c end) (ended w None w.place))
+    (ended w (Some R1) c.sequence)
 
--- down from the node with header h at byte p to the k-th of its children, 0 for none
-unfoldable pub down_to : List ℕ → View → ℕ → Header → ℕ → ℕ → Walk → Walk
-down_to l v t h p k w = cond (k == 0) (ended w Kept w.place) (child l v t h.end (read_child l (p + child_at (k - 1))) w)
+-- down from the node with header h at byte p to the child that was picked, if one was
+unfoldable pub down_to : List ℕ → View → ℕ → Header → ℕ → Option ℕ → Walk → Walk
+down_to l v t h p None w = ended w None w.place
+down_to l v t h p (Some i) w = child l v t h.end (read_child l (p + child_at i)) w
 
 -- the node at byte p was entered and its intervals looked at
 unfoldable pub descend : List ℕ → View → ℕ → Header → ℕ → Walk → Walk
-descend l v t h p w = down_to l v t h p (pick l t (p + child_at 0) 0 h.children 0) (counted w)
+descend l v t h p w = down_to l v t h p (pick l t (p + child_at 0) 0 h.children None) (counted w)
 
 -- R6 of all its entries, then down
 unfoldable pub inside : List ℕ → View → ℕ → Header → ℕ → Walk → Walk
 inside l v t h p w =
-    cond (all_sound l v.attributes h (p + entry_at v.shape 0) h.intervals true) (descend l v t h p w) (ended w R6 w.place)
+    cond (all_sound l v.attributes h (p + entry_at v.shape 0) h.intervals true) (descend l v t h p w) (ended w (Some R6) w.place)
 
 -- the node with header h at byte p, of which `level` is due, is entered: R1 to R5, then inside
 unfoldable pub enter : List ℕ → View → ℕ → ℕ → Header → ℕ → Walk → Walk

@@ -2,14 +2,16 @@
 use Prim.Native.Nat.{ℕ, zero, suc, ◌+◌, ◌-◌, ◌*◌, ◌/◌, ◌%◌, ◌^◌, ◌<◌, ◌≤◌}
 use mathlib.Core.Path.{◌≡◌, refl, sym, ap, subst, ◌∙◌}
 use mathlib.Core.List.{List, [], ◌∷◌, ◌++◌}
-use native.Mathlib.Nat.{add-zero, add-suc, suc-add, zero-add, mul_comm, mul_assoc, div-add-mod', div-lt_iff_lt-mul, pow-suc, sub_self, pow-le-pow_right, lt_of_lt_of_le}
+use native.Mathlib.Nat.{add-zero, add-suc, suc-add, zero-add, mul_comm, mul_assoc, div-add-mod', div-lt_iff_lt-mul, pow-suc}
 use lib.Dec.{lit<}
+use native.Mathlib.Numerals.{add-one}
 use native.Mathlib.Omega.{arith}
-use lib.ListN.{length, get_or, set, take, drop, length-set, get_or-append}
+use lib.ListN.{length, get_or, set, take, drop, replicate, length-set, get_or-append}
 use borrow.Rule.Slice.PartMut.{mid_of}
 use lib.Seq.{sets, length-sets, get_or-set_same, get_or-take, get_or-drop, get_or-append-add, drop-cons}
+use Rattle.std.specs.Int.{w64, from_le_bytes}
 use Rattle.words.specs.Words.{le, num}
-use Rattle.words.proofs.Stores.{sets_append, get_or_sets_below, get_or_sets_above}
+use Rattle.words.proofs.Stores.{length_mid, sets_all, sets_append, get_or_sets_below, get_or_sets_above}
 
 pub length_le : (n v : ℕ) → length (le n v) ≡ n
 unfolding le
@@ -38,47 +40,21 @@ le_join (suc n) m a b h =
 pub le_wide : (n m v : ℕ) → v < 256 ^ n → le (n + m) v ≡ le n v ++ le m 0
 le_wide n m v b = ap (λ (k : ℕ). le (n + m) k) (omega arith) ∙ le_join n m v 0 b
 
--- a turn of the loop that writes: one store, and what is left to write
-pub put_step : (l : List ℕ) (at i n v : ℕ) → i < n → sets l (at + i) (le (n - i) v) ≡ sets (set l (at + i) (v % 256)) (at + (i + 1)) (le (n - (i + 1)) (v / 256))
+-- the loop that writes n bytes has written nothing
+pub put_none : (l : List ℕ) (n v : ℕ) → length l ≡ n → sets l 0 (le (n - 0) v) ≡ le n v
+put_none l n v e = ap (λ (k : ℕ). sets l 0 (le k v)) (omega arith) ∙ sets_all l (le n v) (length_le n v ∙ sym e)
+
+-- a turn of it: one store, and what is left to write
+pub put_step : (l : List ℕ) (i n v : ℕ) → i < n → sets l i (le (n - i) v) ≡ sets (set l i (v % 256)) (i + 1) (le (n - (i + 1)) (v / 256))
 unfolding le
-put_step l at i n v h =
+put_step l i n v h =
     let e : n - i ≡ suc (n - (i + 1)) = omega arith in
-    let f : suc (at + i) ≡ at + (i + 1) = omega arith in
-    ap (λ (k : ℕ). sets l (at + i) (le k v)) e
-    ∙ ap (λ (k : ℕ). sets (set l (at + i) (v % 256)) k (le (n - (i + 1)) (v / 256))) f
+    ap (λ (k : ℕ). sets l i (le k v)) e ∙ ap (λ (k : ℕ). sets (set l i (v % 256)) k (le (n - (i + 1)) (v / 256))) (sym (add-one i))
 
--- the loop that writes has nothing left
-pub put_done : (l : List ℕ) (at i n v : ℕ) → n ≤ i → sets l (at + i) (le (n - i) v) ≡ l
+-- it has nothing left
+pub put_done : (l : List ℕ) (i n v : ℕ) → n ≤ i → sets l i (le (n - i) v) ≡ l
 unfolding le
-put_done l at i n v h = let e : n - i ≡ 0 = omega arith in ap (λ (k : ℕ). sets l (at + i) (le k v)) e
-
--- a turn of the loop that reads, from the last byte to the first
-pub get_step : (l : List ℕ) (at i n : ℕ) → 0 < i → i ≤ n → num l (at + i) (n - i) * 256 + get_or l (at + (i - 1)) 0 ≡ num l (at + (i - 1)) (n - (i - 1))
-unfolding num
-get_step l at i n h k =
-    let e : n - (i - 1) ≡ suc (n - i) = omega arith in
-    let f : suc (at + (i - 1)) ≡ at + i = omega arith in
-    sym (ap (λ (m : ℕ). num l (at + (i - 1)) m) e
-    ∙ ap (λ (m : ℕ). get_or l (at + (i - 1)) 0 + 256 * num l m (n - i)) f
-    ∙ omega arith)
-
--- the same of what a turn has and reads
-pub get_turn : (l : List ℕ) (at i n v x : ℕ) → 0 < i → i ≤ n → v ≡ num l (at + i) (n - i) → x ≡ get_or l (at + (i - 1)) 0 → v * 256 + x ≡ num l (at + (i - 1)) (n - (i - 1))
-get_turn l at i n v x h k p q = cc (get_step l at i n h k)
-
--- the loop that reads has read nothing
-pub get_none : (l : List ℕ) (at n : ℕ) → (0 ≡ num l (at + n) (n - n)) × (0 < 256 ^ (n - n))
-unfolding num
-get_none l at n = rw sub_self (refl, lit< tt)
-
--- a turn of it keeps the number within its bytes, and those within eight
-pub get_room : (i n v x : ℕ) → 0 < i → i ≤ n → v < 256 ^ (n - i) → x < 256 → v * 256 + x < 256 ^ (n - (i - 1))
-get_room i n v x h k b y =
-    let e : n - (i - 1) ≡ suc (n - i) = omega arith in
-    rw (e, pow-suc) (omega arith)
-
-pub within_8 : (n x : ℕ) → n ≤ 8 → x < 256 ^ n → x < 2 ^ 64
-within_8 n x h b = lt_of_lt_of_le b (pow-le-pow_right {n = 256} (lit< tt) h)
+put_done l i n v h = let e : n - i ≡ 0 = omega arith in ap (λ (k : ℕ). sets l i (le k v)) e
 
 -- the same bytes make the same number
 pub num_ext : (l m : List ℕ) (i j n : ℕ) → ((k : ℕ) → k < n → get_or l (i + k) 0 ≡ get_or m (j + k) 0) → num l i n ≡ num m j n
@@ -166,6 +142,48 @@ num_between xs n v ys p e b =
     ap (λ (k : ℕ). num (xs ++ (le n v ++ ys)) k n) (sym e ∙ sym (add-zero (length xs)))
     ∙ num_right xs (le n v ++ ys) 0 n
     ∙ num_le n v ys b
+
+-- ---- std's number in eight bytes
+
+pub from_le_bytes_num : (l : List ℕ) → from_le_bytes w64 l ≡ num l 0 8
+unfolding num
+from_le_bytes_num l = omega arith
+
+-- zeros are 0
+num_zero : (l : List ℕ) (at n : ℕ) → ((k : ℕ) → at ≤ k → get_or l k 0 ≡ 0) → num l at n ≡ 0
+unfolding num
+num_zero l at zero h = refl
+num_zero l at (suc n) h = omega (arith, h at (omega arith), num_zero l (suc at) n (λ k b. h k (omega arith)))
+
+-- zeros behind n bytes add nothing
+num_narrow : (l : List ℕ) (at n m : ℕ) → ((k : ℕ) → at + n ≤ k → get_or l k 0 ≡ 0) → num l at (n + m) ≡ num l at n
+unfolding num
+num_narrow l at zero m h = num_zero l at (zero + m) (λ k b. h k (omega arith))
+num_narrow l at (suc n) m h =
+    let r : num l (suc at) (n + m) ≡ num l (suc at) n = num_narrow l (suc at) n m (λ k b. h k (omega (arith, add-suc at n))) in
+    ap (λ (k : ℕ). num l at k) (suc-add n m) ∙ ap (λ (x : ℕ). get_or l at 0 + 256 * x) r
+
+get_or_zeros : (n k : ℕ) → get_or (replicate {A = ℕ} n 0) k 0 ≡ 0
+get_or_zeros zero k = refl
+get_or_zeros (suc n) zero = refl
+get_or_zeros (suc n) (suc k) = get_or_zeros n k
+
+-- n bytes copied over the first of eight zeros
+num_padded : (xs : List ℕ) (n : ℕ) → length xs ≡ n → n ≤ 8 → from_le_bytes w64 (xs ++ drop n (replicate 8 0)) ≡ num xs 0 n
+num_padded xs n long h =
+    let zs : List ℕ = drop n (replicate 8 0) in
+    let behind : (j : ℕ) → 0 + n ≤ j → get_or (xs ++ zs) j 0 ≡ 0 =
+    λ j b. ap (λ (i : ℕ). get_or (xs ++ zs) i 0) (omega arith) ∙ get_or-append-add xs zs (j - n) 0 ∙ get_or-drop n (replicate 8 0) (j - n) 0 ∙ get_or_zeros 8 (n + (j - n))
+    in
+    from_le_bytes_num (xs ++ zs) ∙ ap (λ (i : ℕ). num (xs ++ zs) 0 i) (omega arith) ∙ num_narrow (xs ++ zs) 0 n (8 - n) behind ∙ num_left xs zs 0 n (omega arith)
+
+-- and copied from index at of l
+pub num_copied : (l xs : List ℕ) (at n : ℕ) → at + n ≤ length l → n ≤ 8 → xs ≡ mid_of at (at + n - at) l → from_le_bytes w64 (xs ++ drop n (replicate 8 0)) ≡ num l at n
+num_copied l xs at n h b e =
+    num_padded xs n (ap length e ∙ length_mid at (at + n - at) l (omega arith) ∙ omega arith) b
+    ∙ ap (λ (z : List ℕ). num z 0 n) e
+    ∙ num_part at (at + n - at) l 0 n (omega arith)
+    ∙ ap (λ (i : ℕ). num l i n) (add-zero at)
 
 -- ---- the other round trip, of bytes below 256
 

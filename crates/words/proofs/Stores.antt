@@ -3,7 +3,6 @@ use Prim.Native.Nat.{ℕ, zero, suc, ◌+◌, ◌-◌, ◌<◌, ◌≤◌}
 use mathlib.Core.Path.{◌≡◌, refl, sym, ap, ◌∙◌}
 use mathlib.Core.List.{List, [], ◌∷◌, ◌++◌, append_assoc, append-nil}
 use native.Mathlib.Nat.{not-suc-le-zero, le_of_suc-le-suc, add-zero, add-suc, suc-add, zero-add}
-use native.Mathlib.Numerals.{add-one}
 use native.Mathlib.Omega.{arith}
 use lib.ListN.{length, get_or, take, drop, set, length-set, length-drop, length-replicate, take-append-drop, replicate, replicate-append-replicate, drop_of_length-le}
 use borrow.Rule.Slice.PartMut.{mid_of, post_of, put_mid}
@@ -91,7 +90,20 @@ sets_within c i X off Y h k =
     let f : sets c i (sets X off Y) ≡ P ++ (sets X off Y ++ Q) = (sets-eq (sets X off Y) c i (omega arith) ∙ append_assoc P (sets X off Y) _) ∙ ap (λ (z : ℕ). P ++ (sets X off Y ++ drop (i + z) c)) n in
     ap (λ (z : List ℕ). sets z (i + off) Y) e ∙ (sets_in P X Q i off Y (length-take-le i c (omega arith)) k ∙ sym f)
 
+-- ---- the whole list
+
+-- a run of stores over the whole list
+pub sets_all : (l vs : List ℕ) → length vs ≡ length l → sets l 0 vs ≡ vs
+sets_all l vs e =
+    sets-eq vs l 0 (omega arith)
+    ∙ ap (λ (t : List ℕ). vs ++ t) (drop_of_length-le l {i = 0 + length vs} (omega arith))
+    ∙ append-nil vs
+
 -- ---- a part of a slice that was lent and comes back
+
+-- it has the length that was asked for
+pub length_mid : (a k : ℕ) (xs : List ℕ) → a + k ≤ length xs → length (mid_of a k xs) ≡ k
+length_mid a k xs h = length-take-le k (drop a xs) (rw length-drop (omega arith))
 
 -- what a callee stored from i on in the k elements that were lent from a on is stored from a + i on in the whole
 pub sets_part : (a k : ℕ) (xs : List ℕ) (i : ℕ) (vs : List ℕ) → a ≤ length xs → i + length vs ≤ length (mid_of a k xs) → put_mid a k xs (sets (mid_of a k xs) i vs) ≡ sets xs (a + i) vs
@@ -103,31 +115,17 @@ sets_part a k xs i vs h g =
 -- the same of `&mut xs[a..e]`, k being e - a: ys is what the callee left
 pub sets_lent : (a k : ℕ) (xs ys : List ℕ) (vs : List ℕ) → ys ≡ sets (mid_of a k xs) 0 vs → a + k ≤ length xs → length vs ≤ k → put_mid a k xs ys ≡ sets xs a vs
 sets_lent a k xs ys vs e h g =
-    let long : length (mid_of a k xs) ≡ k = length-take-le k (drop a xs) (rw length-drop (omega arith)) in
-    ap (λ (l : List ℕ). put_mid a k xs l) e ∙ sets_part a k xs 0 vs (omega arith) (omega arith) ∙ rw add-zero
+    ap (λ (l : List ℕ). put_mid a k xs l) e ∙ sets_part a k xs 0 vs (omega arith) (omega (arith, length_mid a k xs h)) ∙ rw add-zero
+
+-- and where the callee wrote all of it
+pub sets_whole : (a k : ℕ) (xs ys vs : List ℕ) → ys ≡ vs → length vs ≡ k → a + k ≤ length xs → put_mid a k xs ys ≡ sets xs a vs
+sets_whole a k xs ys vs e g h = sets_lent a k xs ys vs (e ∙ sym (sets_all (mid_of a k xs) vs (omega (arith, length_mid a k xs h)))) h (omega arith)
 
 -- and of `&mut xs[a..]`
 pub sets_tail : (a : ℕ) (xs ys : List ℕ) (vs : List ℕ) → ys ≡ sets (mid_of a (length xs - a) xs) 0 vs → a + length vs ≤ length xs → put_mid a (length xs - a) xs ys ≡ sets xs a vs
 sets_tail a xs ys vs e h = sets_lent a (length xs - a) xs ys vs e (omega arith) (omega arith)
 
--- ---- zeros, and the whole list
-
--- a turn of the loop that stores v from i up to t
-pub fill_step : (l : List ℕ) (i t v : ℕ) → i < t → sets l i (replicate (t - i) v) ≡ sets (set l i v) (i + 1) (replicate (t - (i + 1)) v)
-fill_step l i t v h =
-    let e : t - i ≡ suc (t - (i + 1)) = omega arith in
-    ap (λ (k : ℕ). sets l i (replicate k v)) e
-    ∙ ap (λ (k : ℕ). sets (set l i v) k (replicate (t - (i + 1)) v)) (sym (add-one i))
-
-pub fill_done : (l : List ℕ) (i t v : ℕ) → t ≤ i → sets l i (replicate (t - i) v) ≡ l
-fill_done l i t v h = let e : t - i ≡ 0 = omega arith in ap (λ (k : ℕ). sets l i (replicate k v)) e
-
--- a run of stores over the whole list
-pub sets_all : (l vs : List ℕ) → length vs ≡ length l → sets l 0 vs ≡ vs
-sets_all l vs e =
-    sets-eq vs l 0 (omega arith)
-    ∙ ap (λ (t : List ℕ). vs ++ t) (drop_of_length-le l {i = 0 + length vs} (omega arith))
-    ∙ append-nil vs
+-- ---- zeros
 
 -- the first unused entries of a padded stretch are taken
 pub pad_more : (m : ℕ) (xs ys : List ℕ) → sets (xs ++ replicate (length ys + m) 0) (length xs) ys ≡ (xs ++ ys) ++ replicate m 0

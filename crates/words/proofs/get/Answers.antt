@@ -1,28 +1,11 @@
-use Rattle.std.proofs.Common.{arith}
-use lib.Dec.{lit<}
-use Rattle.words.proofs.Numbers.{get_turn, get_none, get_room, within_8}
+use Rattle.std.proofs.Common.{◌≡◌, ◌^◌, ◌<◌, ◌∙◌, arith}
+use Rattle.words.specs.Words.{num}
+use Rattle.words.proofs.Numbers.{num_copied, num_below}
 use Rattle.words.proofs.get.Goals as goal
 
-pub loop-i-init : goal.loop-i-init
-loop-i-init c = let z = get_none c.args.b.now c.args.at c.args.n in record { within = omega arith; read = z.0; room = z.1 }
-
-pub overflow_mul-v : goal.overflow_mul-v
-overflow_mul-v c =
-    let inv = c.loop-i.invariant in
-    let r = get_room _ _ _ 0 c.loop-i-test.true inv.within inv.room (lit< tt) in
-    record { fits = omega (arith, within_8 _ _ (omega arith) r) }
-
-pub overflow_add-v : goal.overflow_add-v
-overflow_add-v c =
-    let inv = c.loop-i.invariant in
-    record { fits = within_8 _ _ (omega arith) (get_room _ _ _ _ c.loop-i-test.true inv.within inv.room c.wide.ensures.1) }
-
--- the number with the byte put in front still has its bytes' room
-pub loop-i-preserved : goal.loop-i-preserved
-loop-i-preserved c =
-    let inv = c.loop-i.invariant in
-    record {
-      within = omega arith;
-      read = get_turn _ _ _ _ _ _ c.loop-i-test.true inv.within inv.read c.wide.ensures.0;
-      room = get_room _ _ _ _ c.loop-i-test.true inv.within inv.room c.wide.ensures.1;
-    }
+pub returns : goal.returns
+returns c =
+    let a = c.args in
+    let read : c.from_le_bytes.result ≡ num a.b.now a.at a.n = c.from_le_bytes.ensures ∙ num_copied _ _ _ _ c.requires.0 c.requires.1 c.copy_from_slice.ensures.after in
+    let room : num a.b.now a.at a.n < 256 ^ a.n = num_below a.b.now (λ k h. (c.type_inv.b k).fits) _ _ c.requires.0 in
+    (read, omega arith)

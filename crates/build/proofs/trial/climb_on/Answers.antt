@@ -1,11 +1,18 @@
-use Rattle.build.proofs.Climbs.{climb_next, climb_goes_on, climb_ends}
+use Prim.Native.Nat.{◌+◌, ◌-◌}
+use native.Mathlib.Nat.{sub-zero}
+use native.Mathlib.Omega.{arith}
+use Rattle.build.proofs.Climbs.{climb_first, climb_next, climb_goes_on, climb_ends}
 use Rattle.build.proofs.trial.climb_on.Goals as goal
 
-pub loop-left-preserved : goal.loop-left-preserved
-loop-left-preserved c = let i = c.loop-left.invariant in
-    let t = c.loop-left-test.true in
-    let e = c.rise_on.ensures in
-    (e.0, (i.1.0, climb_next _ _ _ t i.1.1 (e.1 i.1.0)), λ s. climb_goes_on _ _ _ _ t (i.2 s) (e.1 s))
+pub loop-i-init : goal.loop-i-init
+loop-i-init c = (rw sub-zero c.requires, rw sub-zero)
+
+pub rise_on-requires : goal.rise_on-requires
+rise_on-requires c = climb_first _ _ (c.args.n - (c.loop-i.i + 1)) (omega arith) c.loop-i.invariant.0
+
+pub loop-i-preserved : goal.loop-i-preserved
+loop-i-preserved c = let v = c.loop-i.invariant in
+    (climb_next _ _ _ (omega arith) _ v.0 c.rise_on.ensures, climb_goes_on _ _ _ (omega arith) _ _ v.1 c.rise_on.ensures)
 
 pub returns : goal.returns
-returns c = let i = c.loop-left.invariant in (i.0, λ s. climb_ends _ _ _ c.loop-left-test.false (i.2 s))
+returns c = climb_ends _ _ _ (omega arith) c.loop-i.invariant.1

@@ -1,11 +1,15 @@
+use Prim.Native.Nat.{◌-◌}
+use native.Mathlib.Omega.{arith}
 use Rattle.build.proofs.Descents.{down_next, down_goes_on, down_ends}
+use Rattle.build.proofs.Trials.{down_calls}
 use Rattle.build.proofs.trial.descend_on.Goals as goal
 
+pub make-requires : goal.make-requires
+make-requires c = down_calls _ _ (c.loop-level.level - 1) (omega arith) c.loop-level.invariant.0
+
 pub loop-level-preserved : goal.loop-level-preserved
-loop-level-preserved c = let i = c.loop-level.invariant in
-    let t = c.loop-level-test.true in
-    let e = c.made.ensures in
-    (e.0, (i.1.0, down_next _ _ _ _ t i.1.1 (e.1 i.1.0)), λ s. down_goes_on _ _ _ _ _ t (i.2 s) (e.1 s))
+loop-level-preserved c = let v = c.loop-level.invariant in
+    (down_next _ _ _ (omega arith) _ _ v.0 c.make.ensures, down_goes_on _ _ _ (omega arith) _ _ _ v.1 c.make.ensures)
 
 pub returns : goal.returns
-returns c = let i = c.loop-level.invariant in (i.0, λ s. down_ends _ _ _ _ c.loop-level-test.false (i.2 s))
+returns c = down_ends _ _ _ _ (omega arith) c.loop-level.invariant.1

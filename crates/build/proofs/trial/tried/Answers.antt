@@ -1,27 +1,22 @@
 -- `build::trial::tried` meets its contract. Assumes nothing.
 use native.Mathlib.Omega.{arith}
+use Rattle.record.proofs.Said.{handed_on}
 use Rattle.build.proofs.Trials.{taken_stores, taken_tried, tried_refused, tried_can, tried_planned}
 use Rattle.build.proofs.trial.tried.Goals as goal
 
-pub stored-requires : goal.stored-requires
-stored-requires c = let e = c.stretched.ensures in
-    let f = c.requires.1 in
-    (e.0, omega (arith, c.seek-level.ensures.2, f.top), taken_stores _ _ _ _ f _ c.takes.ensures c.if-takes.true _ (e.1 c.args.shape))
+pub store-requires : goal.store-requires
+store-requires c = let f = c.requires.0 in
+    (omega (arith, c.seek-level.ensures.2, f.top), taken_stores _ _ _ _ f _ c.takes.ensures c.if-takes.true _ c.stretch.ensures)
 
 pub returns-then-takes : goal.returns-then-takes
-returns-then-takes c = let t = c.args.shape in
-    let k = taken_tried _ _ _ _ c.requires.1 _ c.takes.ensures c.if-takes.true _ (c.stretched.ensures.1 t) _ c.seek-level.ensures.0 c.seek-level.ensures.2 (c.stored.ensures.1 t) in
-    (k.0, c.stored.ensures.0, k.1)
+returns-then-takes c =
+    taken_tried _ _ _ _ c.requires.0 _ c.takes.ensures c.if-takes.true _ c.stretch.ensures _ c.seek-level.ensures.0 c.seek-level.ensures.2 c.store.ensures
 
-pub returns-in_default : goal.returns-in_default
-returns-in_default c = let k = tried_refused _ _ _ _ _ c.settle-p.ensures c.refusal-what.ensures c.in_default.not-Nothing in
-    (k.0, c.requires.0, k.1)
+pub returns-in_err-admit : goal.returns-in_err-admit
+returns-in_err-admit c = rw (handed_on _ _ _ c.in_err-admit.was c.from_residual.ensures.1) (tried_refused _ _ _ _ _ c.settle-p.ensures c.admit.ensures _ c.in_err-admit.was)
 
 pub carry_on-requires : goal.carry_on-requires
-carry_on-requires c = let f = c.requires.1 in
-    (c.requires.0, c.requires.2, (c.args.shape, f, tried_can _ _ 0 _ _ c.settle-p.ensures c.refusal-what.ensures f c.in-Nothing.is))
+carry_on-requires c = let p = c.requires in (p.0, tried_can _ _ 0 _ _ c.settle-p.ensures c.admit.ensures p.0 c.in_ok-admit.was, p.1)
 
 pub returns : goal.returns
-returns c = let e = c.carry_on.ensures in
-    let k = tried_planned _ _ _ _ _ c.settle-p.ensures c.refusal-what.ensures _ c.in-Nothing.is (e.1 c.args.shape) in
-    (k.0, e.0, k.1)
+returns c = tried_planned _ _ _ _ _ c.settle-p.ensures c.admit.ensures _ c.in_ok-admit.was c.carry_on.ensures

@@ -1,10 +1,6 @@
 -- `build::write::climb` meets its contract: what is left of the climb is the whole of it. Assumes nothing.
-use Prim.Native.Nat.{◌-◌}
 use Rattle.build.proofs.Turns.{ClimbLeft}
 use Rattle.build.proofs.write.climb.Given as goal
 
 abbrev pub invariant-loop-i : goal.invariant-loop-i
-invariant-loop-i l = ClimbLeft l.shape l.n l.initial.h l.initial.nodes l.i l.h l.nodes
-
-abbrev pub decreases-loop-i : goal.decreases-loop-i
-decreases-loop-i l = l.n - l.i
+invariant-loop-i l = ClimbLeft l.n l.initial.h l.initial.nodes l.i l.h l.nodes

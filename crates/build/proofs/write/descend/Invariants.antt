@@ -3,7 +3,4 @@ use Rattle.build.proofs.Turns.{DescendLeft}
 use Rattle.build.proofs.write.descend.Given as goal
 
 abbrev pub invariant-loop-level : goal.invariant-loop-level
-invariant-loop-level l = DescendLeft l.shape l.start l.n l.initial.h l.initial.nodes l.level l.h l.nodes
-
-abbrev pub decreases-loop-level : goal.decreases-loop-level
-decreases-loop-level l = l.level
+invariant-loop-level l = DescendLeft l.start l.n l.initial.h l.initial.nodes l.level l.h l.nodes

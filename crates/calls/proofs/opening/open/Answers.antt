@@ -1,17 +1,17 @@
 -- `calls::opening::open` meets its contract. Assumes nothing.
 use mathlib.Core.Path.{refl}
-use Rattle.build.proofs.Trials.{refused}
+use Rattle.record.proofs.Said.{handed_on, refused}
 use Rattle.calls.proofs.Openings.{opens_standing, opens_table, open_refused, open_done}
 use Rattle.calls.proofs.opening.open.Goals as goal
 
-pub returns-in_default : goal.returns-in_default
-returns-in_default c = (c.entire-all.ensures.1, open_refused _ _ _ _ _ _ _ c.refusal-r.ensures (refused c.refusal-r.result c.in_default.not-Nothing))
+pub returns-in_err-admit : goal.returns-in_err-admit
+returns-in_err-admit c = rw (handed_on _ _ _ c.in_err-admit.was c.from_residual.ensures.1) (open_refused _ _ _ _ _ _ _ c.admit.ensures (refused _ _ c.in_err-admit.was))
 
 pub plant-requires : goal.plant-requires
-plant-requires c = opens_standing _ _ _ _ _ _ c.refusal-r.ensures c.in-Nothing.is _ _ refl (c.begin.ensures.1 _)
+plant-requires c = opens_standing _ _ _ _ _ _ c.admit.ensures c.in_ok-admit.was _ _ refl c.begin.ensures
 
 pub open_table-requires : goal.open_table-requires
-open_table-requires c = opens_table _ _ _ _ _ _ c.refusal-r.ensures c.in-Nothing.is
+open_table-requires c = opens_table _ _ _ _ _ _ c.admit.ensures c.in_ok-admit.was
 
 pub returns : goal.returns
-returns c = (c.begin.ensures.0, open_done _ _ _ _ _ _ _ c.refusal-r.ensures _ _ _ c.in-Nothing.is (c.begin.ensures.1 _) c.plant.ensures c.open_table.ensures)
+returns c = open_done _ _ _ _ _ _ _ c.admit.ensures _ _ _ c.in_ok-admit.was c.begin.ensures c.plant.ensures c.open_table.ensures

@@ -1,5 +1,5 @@
 -- The loop looks at what is left to look at. Assumes nothing.
-use Prim.Native.Nat.{◌+◌, ◌-◌, ◌*◌, ◌≤◌}
+use Prim.Native.Nat.{◌+◌, ◌-◌, ◌*◌}
 use mathlib.Core.Path.{◌≡◌}
 use mathlib.Core.Bool.{true, ◌&&◌}
 use lib.Dec.{leb, eqb}
@@ -10,11 +10,9 @@ use Rattle.full_question.specs.Table.{note_all, once}
 use Rattle.full_question.proofs.all.look.Given as goal
 
 abbrev pub invariant-loop-i : goal.invariant-loop-i
-invariant-loop-i l =
-    (l.i ≤ l.n) × (l.p ≡ l.at + entry_size * l.i) × (length l.found ≡ length l.initial.found)
-    × (all_sound l.nodes l.attributes l.h l.at l.n true ≡ all_sound l.nodes l.attributes l.h l.p (l.n - l.i) (eqb l.nulls 0 && leb l.kinds 1))
-    × (note_all l.nodes l.t l.at l.n l.initial.found ≡ note_all l.nodes l.t l.p (l.n - l.i) l.found)
-    × (once l.attributes l.found ≡ true)
-
-abbrev pub decreases-loop-i : goal.decreases-loop-i
-decreases-loop-i l = l.n - l.i
+invariant-loop-i l = record {
+  long : length l.found ≡ length l.initial.found;
+  sound : all_sound l.nodes l.attributes l.h l.at l.n true ≡ all_sound l.nodes l.attributes l.h (l.at + entry_size * l.i) (l.n - l.i) (eqb l.nulls 0 && leb l.kinds 1);
+  notes : note_all l.nodes l.t l.at l.n l.initial.found ≡ note_all l.nodes l.t (l.at + entry_size * l.i) (l.n - l.i) l.found;
+  ones : once l.attributes l.found ≡ true;
+}

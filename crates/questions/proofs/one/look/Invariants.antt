@@ -1,5 +1,5 @@
 -- The loop looks at what is left to look at. Assumes nothing.
-use Prim.Native.Nat.{ℕ, ◌+◌, ◌-◌, ◌*◌, ◌≤◌}
+use Prim.Native.Nat.{◌+◌, ◌-◌, ◌*◌}
 use mathlib.Core.Path.{◌≡◌}
 use mathlib.Core.Bool.{true, ◌&&◌}
 use lib.Dec.{leb, eqb}
@@ -8,11 +8,8 @@ use Rattle.walk.specs.Walk.{all_sound}
 use Rattle.questions.specs.Found.{look}
 use Rattle.questions.proofs.one.look.Given as goal
 
-abbrev pub invariant-loop-p : goal.invariant-loop-p
-invariant-loop-p l =
-    (i : ℕ) × (i ≤ l.n) × (l.p ≡ l.at + entry_size * i)
-    × (all_sound l.nodes l.attributes l.h l.at l.n true ≡ all_sound l.nodes l.attributes l.h l.p (l.n - i) (eqb l.nulls 0 && leb l.kinds 1))
-    × (look l.nodes l.quark.0 l.t l.at l.n l.found ≡ look l.nodes l.quark.0 l.t l.p (l.n - i) l.s)
-
-abbrev pub decreases-loop-p : goal.decreases-loop-p
-decreases-loop-p l = l.end - l.p
+abbrev pub invariant-loop-i : goal.invariant-loop-i
+invariant-loop-i l = record {
+  sound : all_sound l.nodes l.attributes l.h l.at l.n true ≡ all_sound l.nodes l.attributes l.h (l.at + entry_size * l.i) (l.n - l.i) (eqb l.nulls 0 && leb l.kinds 1);
+  finds : look l.nodes l.quark.0 l.t l.at l.n l.found ≡ look l.nodes l.quark.0 l.t (l.at + entry_size * l.i) (l.n - l.i) l.s;
+}

@@ -1,44 +1,34 @@
 -- Each `return` cites the law of its way through `single_of`. Assumes nothing.
 use Prim.Native.Nat.{◌<◌}
-use mathlib.Core.Path.{refl, ap, subst, ◌∙◌}
-use lib.ListN.{length}
-use Rattle.walk.specs.declared.View.{View}
-use Rattle.walk.specs.View.{long_for}
-use Rattle.walk.proofs.Admitted.{sound_record, sound_view, long_nodes, long_table}
-use Rattle.questions.proofs.Singles.{single_3, single_2, single_7, single_6, single_view}
+use mathlib.Core.Path.{refl, sym, ap, subst, ◌∙◌}
 use mathlib.Core.Bool.{not}
+use Rattle.questions.specs.Single.{said}
+use Rattle.walk.specs.declared.View.{View}
+use Rattle.walk.specs.View.{view_of}
+use Rattle.record.proofs.Facts.{admitted_facts}
+use Rattle.walk.proofs.Admitted.{sound_roomy}
+use Rattle.questions.proofs.Singles.{single_head, single_7, single_6, single_view}
 use Rattle.questions.proofs.one.single.Goals as goal
 
-pub long_for-requires : goal.long_for-requires
-long_for-requires c = let s = sound_view _ _ _ c.sound.ensures (ap not c.if-not-sound.false) c.view_of-v.ensures in (s.places, s.size)
+pub returns-in_err-admit : goal.returns-in_err-admit
+returns-in_err-admit c = single_head _ _ _ _ _ _ _ (sym c.admit.ensures ∙ c.in_err-admit.was) c.from_residual.ensures.1
 
-pub returns-then-not-sound : goal.returns-then-not-sound
-returns-then-not-sound c = single_3 _ _ _ _ _ _ _ c.sound.ensures (ap not c.if-not-sound.true) c.refused.ensures
-
-pub returns-then-not-long_for : goal.returns-then-not-long_for
-returns-then-not-long_for c = single_2 _ _ _ _ _ _ _ c.sound.ensures (ap not c.if-not-sound.false) _ c.view_of-v.ensures _ c.long_for.ensures (ap not c.if-not-long_for.true) c.refused-then-not-long_for.ensures
+pub view_of-v-requires : goal.view_of-v-requires
+view_of-v-requires c = (admitted_facts _ _ _ (sym c.admit.ensures ∙ c.in_ok-admit.was)).0
 
 pub returns-then-v-quark : goal.returns-then-v-quark
-returns-then-v-quark c =
-    single_7 _ _ _ _ _ _ _ c.sound.ensures (ap not c.if-not-sound.false) _ c.view_of-v.ensures _ c.long_for.ensures (ap not c.if-not-long_for.false) c.if-v-quark.true c.refused-then-v-quark.ensures
+unfolding said
+returns-then-v-quark c = single_7 _ _ _ _ _ _ (sym c.admit.ensures ∙ c.in_ok-admit.was) _ c.view_of-v.ensures c.if-v-quark.true refl
 
 pub returns-then-not-asked : goal.returns-then-not-asked
-returns-then-not-asked c =
-    single_6 _ _ _ _ _ _ _ c.sound.ensures (ap not c.if-not-sound.false) _ c.view_of-v.ensures _ c.long_for.ensures (ap not c.if-not-long_for.false) c.if-v-quark.false _ c.asked.ensures (ap not c.if-not-asked.true) c.refused-then-not-asked.ensures
+unfolding said
+returns-then-not-asked c = single_6 _ _ _ _ _ _ (sym c.admit.ensures ∙ c.in_ok-admit.was) _ c.view_of-v.ensures c.if-v-quark.false _ c.asked.ensures (ap not c.if-not-asked.true) refl
 
 pub admitted-requires : goal.admitted-requires
+unfolding view_of
 admitted-requires c =
-    let a = c.args in
-    let views = c.view_of-v.ensures in
-    let long = c.long_for.ensures ∙ ap (λ (v : View). long_for v (length a.nodes.now) (length a.table.now)) views in
-    let enough = (ap not c.if-not-long_for.false) in
-    let view = sound_view _ _ _ c.sound.ensures (ap not c.if-not-sound.false) refl in (
-      sound_record _ _ c.sound.ensures (ap not c.if-not-sound.false),
-      view.roomy _ (long_nodes _ _ _ _ long enough),
-      subst (λ (v : View). a.quark.0 < v.attributes) views c.if-v-quark.false,
-      long_table _ _ _ _ long enough,
-    )
+    let f = admitted_facts _ _ _ (sym c.admit.ensures ∙ c.in_ok-admit.was) in
+    (f.0, sound_roomy _ f.0 _ f.1, subst (λ (v : View). c.args.quark.0 < v.attributes) c.view_of-v.ensures c.if-v-quark.false, f.2)
 
 pub returns : goal.returns
-returns c =
-    single_view _ _ _ _ _ _ _ c.sound.ensures (ap not c.if-not-sound.false) _ c.view_of-v.ensures _ c.long_for.ensures (ap not c.if-not-long_for.false) c.if-v-quark.false _ c.asked.ensures (ap not c.if-not-asked.false) c.admitted.ensures
+returns c = single_view _ _ _ _ _ _ (sym c.admit.ensures ∙ c.in_ok-admit.was) _ c.view_of-v.ensures c.if-v-quark.false _ c.asked.ensures (ap not c.if-not-asked.false) c.admitted.ensures
