@@ -73,9 +73,6 @@ module _ (h : History) where
       root = λ e. c.root (omega (arith, c.reach));
     }
 
-    pub close_needs : h.low < h.top → h.low < 15
-    close_needs lt = omega (arith, c.firm.top)
-
     pub raise_needs : h.top ≤ h.low → (h.top < 15) × (h.used < h.shape.n) × (h.used < 4294967295)
     raise_needs le =
         let r = c.root (omega (arith, c.reach, c.firm.ordered)) in (r.0, r.1, omega (arith, r.1, c.firm.shaped.nodes))
@@ -110,22 +107,6 @@ pub climb_low : (n : ℕ) (h : History) → Climbing h n → (climb_on n h).low 
 unfolding climb_on
 climb_low zero h c = omega arith
 climb_low (suc n) h c = omega (arith, climb_low n (rise_on h) (rise_climbing h n c), rise_low h c.firm.ordered)
-
--- the climb as a loop has it, with l levels left
-module _ (h : History) (l m : ℕ) (e : l ≡ suc m) where
-  pub climb_first : Climbing h l → Climbing h 1
-  climb_first c = climb_one h m (rw e at c)
-
-  pub climb_next : (g : History) → Climbing h l → g ≡ rise_on h → Climbing g m
-  climb_next g c is = rw is (rise_climbing h m (rw e at c))
-
-  pub climb_goes_on : (g a : History) → climb_on l h ≡ a → g ≡ rise_on h → climb_on m g ≡ a
-  unfolding climb_on
-  climb_goes_on g a inv is = rw is (rw e at inv)
-
-pub climb_ends : (h : History) (l : ℕ) (a : History) → l ≡ 0 → climb_on l h ≡ a → h ≡ a
-unfolding climb_on
-climb_ends h l a e inv = rw e at inv
 
 -- the root stays open
 pub record Within (h g : History) : Type 0 where
@@ -165,7 +146,3 @@ climb_beyond (suc n) h e =
     let k = climb_beyond n (closed h) (omega arith) in
     rw (rise_closes h (omega arith))
     (record { top = k.top; used = k.used; intervals = k.intervals; children = k.children })
-
-pub climb_none : (h : History) (n : ℕ) → n ≡ 0 → h ≡ climb_on n h
-unfolding climb_on
-climb_none h n z = rw z refl

@@ -63,23 +63,6 @@ module _ (a : ℕ) where
   descend_empty zero h = omega (arith, make_empty h a 0)
   descend_empty (suc n) h = descend_empty n (made h a (suc n))
 
--- the descent as a loop has it, with l levels left
-module _ (h : History) (l m : ℕ) (e : l ≡ suc m) where
-  pub down_needs : Descending h l → (m < 15) × (h.used < 4294967295) × (children_at h.branch (m + 1) < 65535)
-  down_needs d = let k = make_needs h 0 m (rw e at d) in (k.0, k.2, k.4)
-
-  module _ (a : ℕ) where
-    pub down_next : (g : History) → Descending h l → g ≡ made h a m → Descending g m
-    down_next g d is = rw is (make_descending h a m (rw e at d))
-
-    pub down_goes_on : (g b : History) → descend_on a l h ≡ b → g ≡ made h a m → descend_on a m g ≡ b
-    unfolding descend_on
-    down_goes_on g b inv is = rw is (rw e at inv)
-
-pub down_ends : (h : History) (l a : ℕ) (b : History) → l ≡ 0 → descend_on a l h ≡ b → h ≡ b
-unfolding descend_on
-down_ends h l a b e inv = rw e at inv
-
 module _ (h : History) (a n : ℕ) (g : Hanging h n) where
   -- and takes an interval
   pub chain_empty : intervals_at (descend_on a n h).branch 0 ≡ 0

@@ -70,9 +70,6 @@ module _ (h : History) (b : List ℕ) (f : Firm h) (space : Room h b) (at slot :
     add_done g x d stands e with = rw (with, stands, is, e) refl
 
     module _ (g : History) (c : List ℕ) (put : c ≡ put_head g l open_end 1 b) where
-      pub entry_inside : at + slot + entry_size ≤ length c
-      entry_inside = omega (arith, entry_ends, space, ap length put ∙ length_head g l b open_end 1)
-
       pub store_done : (x : Entry) (d : List ℕ) → at ≡ stands_at h l → g ≡ stored h l → d ≡ sets c (at + slot) (entry_bytes x) → held g d ≡ store x l (held h b)
       unfolding store
       store_done x d stands e with = rw (with, put, stands, is, e) refl

@@ -1,6 +1,6 @@
 -- Storing an interval, or refusing it: each way through `insert`, and what the record and the node buffer keep. Assumes nothing.
 use Prim.Native.Nat.{ℕ, ◌-◌, ◌≤◌, ◌<◌}
-use mathlib.Core.Path.{◌≡◌, sym, ap, subst, ◌∙◌}
+use mathlib.Core.Path.{◌≡◌, refl, sym, ap, subst, ◌∙◌}
 use mathlib.Core.Bool.{Bool, true, false, cond}
 use mathlib.Core.List.{List}
 use Rattle.std.specs.Prelude.{Err}
@@ -20,6 +20,7 @@ use Rattle.build.specs.Write.{climb, stretch, placed, written, inserted}
 use Rattle.build.specs.Carried.{Alike}
 use Rattle.build.proofs.Taken.{taken_room, taken_plan, taken_accepted}
 use Rattle.build.proofs.Trials.{tried_firm, tried_alike, tried_long}
+use Rattle.build.proofs.Turns.{Kept}
 use Rattle.build.proofs.Steps.{inserted_history, inserted_length, room_kept}
 
 -- ═══ Each way ═══
@@ -66,12 +67,15 @@ module _ (h : History) (b : List ℕ) (x : Entry) where
     yes : taken h x.start l ≡ true
     yes = sym told ∙ told-yes
 
-    pub taken_can : Room h b → x.end ≤ last_time → Firm g × Room g b × (g.low ≤ l) × (l ≤ g.top) × (intervals_at g.branch l < g.shape.k)
+    pub taken_open : (room : Held → Type 0) → Kept room → room (held h b) → x.end ≤ last_time → Firm g × room (held g b) × (g.low ≤ l) × (l ≤ g.top) × (intervals_at g.branch l < g.shape.k)
     unfolding stretched with_largest
-    taken_can room le =
+    taken_open room kept fits le =
         let k = subst (λ (y : History). Firm y × (y.low ≤ l) × (l ≤ y.top) × (intervals_at y.branch l < y.shape.k)) (sym on)
         (stretched_can h x.end l f le at.1 at.2 (taken_room h x.start l yes)) in
-        (k.0, subst (λ (y : History). Room y b) (sym on) room, k.1, k.2, k.3)
+        (k.0, kept (held h b) (held g b) (ap (λ (y : History). y.shape) on) refl fits, k.1, k.2, k.3)
+
+    pub taken_can : Room h b → x.end ≤ last_time → Firm g × Room g b × (g.low ≤ l) × (l ≤ g.top) × (intervals_at g.branch l < g.shape.k)
+    taken_can = taken_open (λ σ. Room σ.history σ.nodes) (λ σ τ. room_kept σ.history τ.history σ.nodes τ.nodes)
 
     pub insert_taken : (τ : Held) → τ ≡ store x l (held g b) → (Nothing ≡ plan_refusal h (settle h x.start)) × (τ ≡ inserted x (held h b))
     unfolding stretch

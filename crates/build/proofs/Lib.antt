@@ -9,3 +9,4 @@ pub mod Heads
 pub mod Steps
 pub mod Turns
 pub mod Inserted
+pub mod Alone

@@ -22,11 +22,11 @@ use Rattle.build.proofs.Stands.{length_head, length_new, length_child}
 -- ---- the moves
 
 module _ (σ : Held) where
-  close_length : length (close σ).nodes ≡ length σ.nodes
+  pub close_length : length (close σ).nodes ≡ length σ.nodes
   unfolding close
   close_length = let h = σ.history in length_head h h.low σ.nodes h.largest_end 2
 
-  raise_length : length (raise σ).nodes ≡ length σ.nodes
+  pub raise_length : length (raise σ).nodes ≡ length σ.nodes
   unfolding raise
   raise_length =
       let h = σ.history in

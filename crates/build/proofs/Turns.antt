@@ -25,6 +25,10 @@ use Rattle.build.proofs.Carried.{landed}
 use Rattle.build.proofs.Stands.{open_stands}
 use Rattle.build.proofs.Steps.{rise_history, rise_length, climb_history, climb_length, make_history, make_length, descend_history, descend_length, room_kept}
 
+-- what room there is, is left by all that leaves the shape and the buffer's length
+abbrev pub Kept : (Held → Type 0) → Type 0
+Kept room = (σ τ : Held) → τ.history.shape ≡ σ.history.shape → length τ.nodes ≡ length σ.nodes → room σ → room τ
+
 -- record and nodes by themselves
 module _ (h : History) (b : List ℕ) (σ : Held) (e : held h b ≡ σ) where
   pub the_history : h ≡ σ.history
@@ -53,19 +57,19 @@ raise_can h c le =
 -- ═══ The climb ═══
 
 -- after i of n rises
-pub record ClimbLeft (n : ℕ) (h₀ : History) (b₀ : List ℕ) (i : ℕ) (h : History) (b : List ℕ) : Type 0 where
+pub record ClimbLeft (room : Held → Type 0) (n : ℕ) (h₀ : History) (b₀ : List ℕ) (i : ℕ) (h : History) (b : List ℕ) : Type 0 where
   pub climbing : Climbing h (n - i)
-  pub room : Room h b
+  pub fits : room (held h b)
   pub same : climb n (held h₀ b₀) ≡ climb (n - i) (held h b)
 
-pub climb_begins : (n : ℕ) (h : History) (b : List ℕ) → Climbing h n → Room h b → ClimbLeft n h b 0 h b
-climb_begins n h b c room = record { climbing = rw sub-zero c; room = room; same = rw sub-zero }
+pub climb_begins : (room : Held → Type 0) (n : ℕ) (h : History) (b : List ℕ) → Climbing h n → room (held h b) → ClimbLeft room n h b 0 h b
+climb_begins room n h b c fits = record { climbing = rw sub-zero c; fits = fits; same = rw sub-zero }
 
 climb_step : (m n : ℕ) (σ τ : Held) → m ≡ suc n → τ ≡ rise σ → climb m σ ≡ climb n τ
 unfolding climb
 climb_step m n σ τ e f = ap (λ (k : ℕ). climb k σ) e ∙ ap (climb n) (sym f)
 
-module _ (n : ℕ) (h₀ : History) (b₀ : List ℕ) (i : ℕ) (h : History) (b : List ℕ) (k : ClimbLeft n h₀ b₀ i h b) where
+module _ (room : Held → Type 0) (n : ℕ) (h₀ : History) (b₀ : List ℕ) (i : ℕ) (h : History) (b : List ℕ) (k : ClimbLeft room n h₀ b₀ i h b) where
   module _ (lt : i < n) where
     one_less : n - i ≡ suc (n - (i + 1))
     one_less = omega arith
@@ -73,16 +77,16 @@ module _ (n : ℕ) (h₀ : History) (b₀ : List ℕ) (i : ℕ) (h : History) (b
     climbing_on : Climbing h (suc (n - (i + 1)))
     climbing_on = subst (λ (m : ℕ). Climbing h m) one_less k.climbing
 
-    pub climb_needs : Climbing h 1 × Room h b
-    climb_needs = (climb_one h (n - (i + 1)) climbing_on, k.room)
+    pub climb_needs : Climbing h 1 × room (held h b)
+    climb_needs = (climb_one h (n - (i + 1)) climbing_on, k.fits)
 
-    pub climb_turn : (h' : History) (b' : List ℕ) → held h' b' ≡ rise (held h b) → ClimbLeft n h₀ b₀ (i + 1) h' b'
-    climb_turn h' b' e =
+    pub climb_turn : Kept room → (h' : History) (b' : List ℕ) → held h' b' ≡ rise (held h b) → ClimbLeft room n h₀ b₀ (i + 1) h' b'
+    climb_turn kept h' b' e =
         let σ = held h b in
         let on = the_history h' b' (rise σ) e ∙ rise_history σ in
         record {
           climbing = subst (λ (g : History). Climbing g (n - (i + 1))) (sym on) (rise_climbing h (n - (i + 1)) climbing_on);
-          room = room_kept h h' b b' (ap (λ (g : History). g.shape) on ∙ (rise_alike h).shape) (the_length h' b' (rise σ) e ∙ rise_length σ) k.room;
+          fits = kept σ (held h' b') (ap (λ (g : History). g.shape) on ∙ (rise_alike h).shape) (the_length h' b' (rise σ) e ∙ rise_length σ) k.fits;
           same = k.same ∙ climb_step (n - i) (n - (i + 1)) σ (held h' b') one_less e;
         }
 
@@ -93,33 +97,33 @@ module _ (n : ℕ) (h₀ : History) (b₀ : List ℕ) (i : ℕ) (h : History) (b
 -- ═══ The chain ═══
 
 -- with l of n nodes still to make
-pub record DescendLeft (a n : ℕ) (h₀ : History) (b₀ : List ℕ) (l : ℕ) (h : History) (b : List ℕ) : Type 0 where
+pub record DescendLeft (room : Held → Type 0) (a n : ℕ) (h₀ : History) (b₀ : List ℕ) (l : ℕ) (h : History) (b : List ℕ) : Type 0 where
   pub descending : Descending h l
-  pub room : Room h b
+  pub fits : room (held h b)
   pub same : descend a n (held h₀ b₀) ≡ descend a l (held h b)
 
-pub descend_begins : (a n : ℕ) (h : History) (b : List ℕ) → Descending h n → Room h b → DescendLeft a n h b n h b
-descend_begins a n h b d room = record { descending = d; room = room; same = refl }
+pub descend_begins : (room : Held → Type 0) (a n : ℕ) (h : History) (b : List ℕ) → Descending h n → room (held h b) → DescendLeft room a n h b n h b
+descend_begins room a n h b d fits = record { descending = d; fits = fits; same = refl }
 
 descend_step : (a m n : ℕ) (σ τ : Held) → m ≡ suc n → τ ≡ make a n σ → descend a m σ ≡ descend a n τ
 unfolding descend
 descend_step a m n σ τ e f = ap (λ (k : ℕ). descend a k σ) e ∙ ap (descend a n) (sym f)
 
-module _ (a n : ℕ) (h₀ : History) (b₀ : List ℕ) (l : ℕ) (h : History) (b : List ℕ) (k : DescendLeft a n h₀ b₀ l h b) where
+module _ (room : Held → Type 0) (a n : ℕ) (h₀ : History) (b₀ : List ℕ) (l : ℕ) (h : History) (b : List ℕ) (k : DescendLeft room a n h₀ b₀ l h b) where
   module _ (m : ℕ) (some : l ≡ suc m) where
     descending_on : Descending h (suc m)
     descending_on = subst (λ (x : ℕ). Descending h x) some k.descending
 
-    pub descend_needs : Firm h × Room h b × (h.low ≡ m + 1) × (children_at h.branch (m + 1) < h.shape.c) × (h.used < h.shape.n)
-    descend_needs = let g = make_needs h a m descending_on in (k.descending.firm, k.room, omega (arith, k.descending.low), g.3, g.1)
+    pub descend_needs : Firm h × room (held h b) × (h.low ≡ m + 1) × (children_at h.branch (m + 1) < h.shape.c) × (h.used < h.shape.n)
+    descend_needs = let g = make_needs h a m descending_on in (k.descending.firm, k.fits, omega (arith, k.descending.low), g.3, g.1)
 
-    pub descend_turn : (h' : History) (b' : List ℕ) → held h' b' ≡ make a m (held h b) → DescendLeft a n h₀ b₀ m h' b'
-    descend_turn h' b' e =
+    pub descend_turn : Kept room → (h' : History) (b' : List ℕ) → held h' b' ≡ make a m (held h b) → DescendLeft room a n h₀ b₀ m h' b'
+    descend_turn kept h' b' e =
         let σ = held h b in
         let on = the_history h' b' (make a m σ) e ∙ make_history σ a m in
         record {
           descending = subst (λ (g : History). Descending g m) (sym on) (make_descending h a m descending_on);
-          room = room_kept h h' b b' (ap (λ (g : History). g.shape) on ∙ (make_alike h a m).shape) (the_length h' b' (make a m σ) e ∙ make_length σ a m) k.room;
+          fits = kept σ (held h' b') (ap (λ (g : History). g.shape) on ∙ (make_alike h a m).shape) (the_length h' b' (make a m σ) e ∙ make_length σ a m) k.fits;
           same = k.same ∙ descend_step a l m σ (held h' b') some e;
         }
 
@@ -127,19 +131,15 @@ module _ (a n : ℕ) (h₀ : History) (b₀ : List ℕ) (l : ℕ) (h : History) 
   unfolding descend
   descend_done z = sym (k.same ∙ ap (λ (m : ℕ). descend a m (held h b)) z)
 
--- the last end under which it hangs
-pub hangs : (h : History) (l : ℕ) → Hanging h l → (l < 16) × (last_end_at h.branch l ≤ last_time)
-hangs h l k = (omega (arith, k.down.low, k.down.firm.ordered, k.down.firm.top), omega (arith, k.last))
-
 module _ (h : History) (b : List ℕ) (l a : ℕ) (g : History) (c : List ℕ) (e : held g c ≡ descend a l (held h b)) where
   -- the lowest node takes the interval
-  pub chain_can : Hanging h l → Room h b → Firm g × Room g c × (g.low ≤ 0) × (0 ≤ g.top) × (intervals_at g.branch 0 < g.shape.k)
-  chain_can k room =
+  pub chain_can : (room : Held → Type 0) → Kept room → Hanging h l → room (held h b) → Firm g × room (held g c) × (g.low ≤ 0) × (0 ≤ g.top) × (intervals_at g.branch 0 < g.shape.k)
+  chain_can room kept k fits =
       let on : descend_on a l h ≡ g = sym (the_history g c (descend a l (held h b)) e ∙ descend_history a l (held h b)) in
       let d : Descending g 0 = subst (λ (x : History). Descending x 0) on (descend_ends a l h k.down) in
-      let fits : intervals_at g.branch 0 < g.shape.k = subst (λ (x : History). intervals_at x.branch 0 < x.shape.k) on (chain_keeps h a l k) in
+      let more : intervals_at g.branch 0 < g.shape.k = subst (λ (x : History). intervals_at x.branch 0 < x.shape.k) on (chain_keeps h a l k) in
       let shape : g.shape ≡ h.shape = ap (λ (x : History). x.shape) (sym on) ∙ (descend_alike a l h).shape in
-      (d.firm, room_kept h g b c shape (the_length g c (descend a l (held h b)) e ∙ descend_length a l (held h b)) room, omega (arith, d.low), omega arith, fits)
+      (d.firm, kept (held h b) (held g c) shape (the_length g c (descend a l (held h b)) e ∙ descend_length a l (held h b)) fits, omega (arith, d.low), omega arith, more)
 
   pub chain_done : (x : Entry) (τ : Held) → a ≡ last_end_at h.branch l + 1 → τ ≡ store x 0 (held g c) → τ ≡ chained x l (held h b)
   chain_done x τ is f = f ∙ ap (store x 0) (e ∙ ap (λ (n : ℕ). descend n l (held h b)) is)
@@ -147,14 +147,14 @@ module _ (h : History) (b : List ℕ) (l a : ℕ) (g : History) (c : List ℕ) (
 -- ═══ The plan ═══
 
 module _ (h : History) (b : List ℕ) (p : Plan) (x : Entry) (g : History) (c : List ℕ) (e : held g c ≡ climb p.closes (held h b)) (u : History) (is : u ≡ stretched g x.end) where
-  pub written_lands : Firm h → Room h b → Feasible h p → x.end ≤ last_time → Landed u p × Room u c
+  pub written_lands : (room : Held → Type 0) → Kept room → Firm h → room (held h b) → Feasible h p → x.end ≤ last_time → Landed u p × room (held u c)
   unfolding stretched with_largest
-  written_lands f room can le =
+  written_lands room kept f fits can le =
       let up : climb_on p.closes h ≡ g = sym (the_history g c (climb p.closes (held h b)) e ∙ climb_history p.closes (held h b)) in
       let on : stretched (climb_on p.closes h) x.end ≡ u = ap (λ (y : History). stretched y x.end) up ∙ sym is in
       let shape : u.shape ≡ h.shape = ap (λ (y : History). y.shape) is ∙ ap (λ (y : History). y.shape) (sym up) ∙ (climb_alike p.closes h).shape in (
         subst (λ (y : History). Landed y p) on (landed h p x.end f can le),
-        room_kept h u b c shape (the_length g c (climb p.closes (held h b)) e ∙ climb_length p.closes (held h b)) room,
+        kept (held h b) (held u c) shape (the_length g c (climb p.closes (held h b)) e ∙ climb_length p.closes (held h b)) fits,
       )
 
   came : held u c ≡ stretch x.end (climb p.closes (held h b))

@@ -2,5 +2,6 @@
 #![tactic(auto)]
 
 pub mod moves; // moves.rt: close, raise, make, store: record and node bytes change together
-pub mod write; // write.rt: a plan carried out; opening; closing all
-pub mod trial; // trial.rt: a plan carried out on the record alone
+mod carry; // carry.rt: a plan carried out, with the node bytes or on the record alone
+pub mod write; // write.rt: an interval stored; opening; closing all
+pub mod trial; // trial.rt: an interval tried on the record alone

@@ -1,10 +1,11 @@
 // The four ways in which record and node bytes change together, the header of an open level, and an interval whose header is left.
-ghost use Rattle.std.specs.Prelude.{◌≡◌, ◌+◌, ◌*◌, ◌≤◌, ◌<◌};
+ghost use Rattle.std.specs.Prelude.{◌≡◌, cond, ◌+◌, ◌*◌, ◌≤◌, ◌<◌};
 ghost use Rattle.layout.specs.Layout.{node_size};
 ghost use Rattle.record.specs.Levels.{place_at, intervals_at, children_at};
 ghost use Rattle.record.specs.Firm.{Shaped, Firm};
 ghost use Rattle.build.specs.Moves.{held, parent_at, head_of, stands_at, put_head, put_new, Fitting, Standing, Room, close, raise, make, added, store};
 
+// What each asks, `Firm` and `Room`, is no invariant of a type: a host lends any record and any buffer, and the calls answer what is wrong with them.
 use layout::{Child, Entry, Header, Seq};
 use record::History;
 
@@ -53,7 +54,7 @@ fn place_of(h: &History, level: u64) -> usize
     record::sound::stands_at(h.branch.places[level as usize] as u32, h.shape)
 }
 
-// "A header that changes is written whole."
+// "A header that changes is written whole." It is promised of every end and every state.
 #[tactic(auto, unfolding(crate::specs::Moves::put_head))]
 pub fn put_head(nodes: &mut [u8], h: &History, level: u64, end: u64, state: u8)
     requires { Standing h.now level nodes.old }
@@ -119,15 +120,26 @@ pub fn make(nodes: &mut [u8], h: &mut History, start: u64, level: u64)
     put_new(nodes, h, level, None);
 }
 
+// A level takes an interval: its header, unless that is left to the caller, and the entry.
+fn take<const HEADER: bool>(nodes: &mut [u8], h: &mut History, e: Entry, level: u64)
+    requires { Firm h.old × Room h.old nodes.old × (h.old.low ≤ level) × (level ≤ h.old.top) × (intervals_at h.old.branch level < h.old.shape.k) }
+    ensures { held h.new nodes.new ≡ cond HEADER (store e level (held h.old nodes.old)) (added e level (held h.old nodes.old)) }
+{
+    let slot = layout::entry_at(h.shape, h.branch.intervals[level as usize] as u32);
+    let at = place_of(h, level);
+    h.store(level);
+    if HEADER {
+        put_head(nodes, h, level, OPEN_END, 1);
+    }
+    layout::put_entry(nodes, at + slot, e);
+}
+
 // An interval in an open node whose header is left to the caller: one header is enough for a run of intervals.
 pub fn add(nodes: &mut [u8], h: &mut History, e: Entry, level: u64)
     requires { Firm h.old × Room h.old nodes.old × (h.old.low ≤ level) × (level ≤ h.old.top) × (intervals_at h.old.branch level < h.old.shape.k) }
     ensures { held h.new nodes.new ≡ added e level (held h.old nodes.old) }
 {
-    let slot = layout::entry_at(h.shape, h.branch.intervals[level as usize] as u32);
-    let at = place_of(h, level);
-    h.store(level);
-    layout::put_entry(nodes, at + slot, e);
+    take::<false>(nodes, h, e, level);
 }
 
 // A level takes an interval: its header, and the entry.
@@ -135,9 +147,5 @@ pub fn store(nodes: &mut [u8], h: &mut History, e: Entry, level: u64)
     requires { Firm h.old × Room h.old nodes.old × (h.old.low ≤ level) × (level ≤ h.old.top) × (intervals_at h.old.branch level < h.old.shape.k) }
     ensures { held h.new nodes.new ≡ store e level (held h.old nodes.old) }
 {
-    let slot = layout::entry_at(h.shape, h.branch.intervals[level as usize] as u32);
-    let at = place_of(h, level);
-    h.store(level);
-    put_head(nodes, h, level, OPEN_END, 1);
-    layout::put_entry(nodes, at + slot, e);
+    take::<true>(nodes, h, e, level);
 }

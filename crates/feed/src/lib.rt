@@ -9,7 +9,7 @@ use layout::Quark;
 use record::Refusal;
 
 // A record, with the numbers of its tag.
-#[derive(Clone, Copy)]
+#[derive(Clone, Copy, Debug, PartialEq, Eq)]
 pub enum Record {
     Open {
         start: u64,
@@ -45,7 +45,7 @@ pub enum Record {
 }
 
 // What stands at a place, a record or what refuses it, with the next place.
-#[derive(Clone, Copy)]
+#[derive(Clone, Copy, Debug, PartialEq, Eq)]
 pub struct Reading {
     pub what: Result<Record, Refusal>,
     pub next: usize,

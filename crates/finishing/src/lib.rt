@@ -14,7 +14,7 @@ ghost use Rattle.finishing.specs.Due.{Due, caught_up};
 use layout::{Entry, Quark};
 use record::{History, Refusal};
 
-// Every entry below the attribute count is read, and all have to be sound.
+// Every entry below the attribute count is read, and all have to be sound. (A full question tests them in the loop in which it notes them.)
 fn all_sound(h: &History, table: &[u8]) -> bool
     requires { (h.now.attributes ≤ length table.now / entry_size) × (h.now.attributes ≤ 4096) }
     ensures { result ≡ all_sound h.now table.now }

@@ -9,7 +9,7 @@ use borrow.Author.Tests.{ne_eqb, eqb-true, eqb-false}
 use Rattle.layout.specs.declared.Entry.{Entry}
 use Rattle.layout.specs.Layout.{entry_size, entry_at, read_header, read_entry}
 use Rattle.walk.specs.declared.View.{View}
-use Rattle.walk.specs.declared.Walk.{Walk}
+use Rattle.walk.specs.Standing.{Walk}
 use Rattle.walk.specs.Rules.{broken, kept, covers}
 use Rattle.walk.specs.Walk.{place_of, step}
 use Rattle.questions.specs.Found.{many, more, noted, look, look_in, look_at, found}

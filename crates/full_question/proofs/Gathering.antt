@@ -11,7 +11,7 @@ use Rattle.layout.specs.declared.Header.{Header}
 use Rattle.layout.specs.Layout.{entry_at}
 use Rattle.record.specs.Refusals.{Damaged}
 use Rattle.walk.specs.declared.View.{View}
-use Rattle.walk.specs.declared.Walk.{Walk}
+use Rattle.walk.specs.Standing.{Walk}
 use Rattle.walk.specs.declared.Rule.{Rule}
 use Rattle.walk.specs.View.{Roomy}
 use Rattle.walk.specs.Rules.{kept}
@@ -114,8 +114,8 @@ module _ (l : List ℕ) (v : View) (t a : ℕ) (zs : List ℕ) where
 
 -- ---- what the question makes of it
 
-pub gathered_kept : (l : List ℕ) (v : View) (t a : ℕ) (ys : List ℕ) → true ≡ (kept (walk_of l v t).rule && once a (found_all l v t ys)) → kept (walk_of l v t).rule ≡ true
-gathered_kept l v t a ys told = and_left _ _ (sym told)
+pub gathered_kept : (l : List ℕ) (v : View) (t a : ℕ) (zs : List ℕ) → true ≡ (kept (walk_of l v t).rule && once a (found_all l v t zs)) → kept (walk_of l v t).rule ≡ true
+gathered_kept l v t a zs told = and_left _ _ (sym told)
 
 -- it breaks a rule, or finds a second one for a quark, and R7 fails: before it nothing is found, in zs, and the ongoing states are noted in ys
 pub full_stop : (v : View) (t : ℕ) (l table : List ℕ) → Roomy v l → (zs : List ℕ) → v.attributes ≤ length zs → ((q : ℕ) → q < v.attributes → get_or zs q 0 ≡ 0)

@@ -15,7 +15,7 @@ use Rattle.layout.specs.Layout.{entry_size, entry_at, read_header, read_entry}
 use Rattle.transient.specs.declared.Ongoing.{Ongoing}
 use Rattle.transient.specs.Transient.{ongoing_at}
 use Rattle.walk.specs.declared.View.{View}
-use Rattle.walk.specs.declared.Walk.{Walk}
+use Rattle.walk.specs.Standing.{Walk}
 use Rattle.walk.specs.Rules.{broken, kept, covers}
 use Rattle.walk.specs.Walk.{place_of, step}
 use Rattle.questions.specs.Found.{more, noted, look, look_in, look_at, found}

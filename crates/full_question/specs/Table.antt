@@ -5,7 +5,7 @@ use Rattle.layout.specs.declared.Header.{Header}
 use Rattle.layout.specs.Layout.{entry_size, entry_at, entry_bytes, read_header, read_entry}
 use Rattle.transient.specs.Transient.{table_at, ongoing_at}
 use Rattle.walk.specs.declared.View.{View}
-use Rattle.walk.specs.declared.Walk.{Walk}
+use Rattle.walk.specs.Standing.{Walk}
 use Rattle.walk.specs.Rules.{broken, kept, covers}
 use Rattle.walk.specs.Walk.{place_of, step, root_of}
 use Rattle.questions.specs.Found.{many, more}

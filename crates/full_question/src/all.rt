@@ -13,9 +13,9 @@ ghost use Rattle.full_question.specs.Table.{note_if, note_all, found_all, once, 
 
 use layout::{Entry, Header, Quark};
 use record::{History, Refusal};
-use walk::{View, Walk, known, rules, steps};
+use walk::{View, known, rules, steps};
 
-// What was found for each quark: 0 nothing, p + 1 the one entry at byte p, ONGOING its ongoing state. At a second one the question ends.
+// What was found for each quark: 0 nothing, p + 1 the one entry at byte p, ONGOING its ongoing state. At a second one the question ends. One number, as in the single question: an enum is slower, and twice as long.
 const ONGOING: u32 = 0xffff_fffe;
 
 // An entry at byte p that covers t is noted for its quark. Tells false where that quark has one already: R7 is broken, whatever else is found.
@@ -73,33 +73,37 @@ fn gather(nodes: &[u8], v: View, t: u64, attributes: u32, found: &mut [u32]) -> 
     ensures told { is_some result ≡ (kept (walk_of nodes.now v t).rule && once attributes (found_all nodes.now v t found.old)) }
     ensures gathers { IfSome result (λ n. (n ≡ (walk_of nodes.now v t).entered) × (found.new ≡ found_all nodes.now v t found.old)) }
 {
-    let mut w = steps::root(v);
+    let mut due = steps::root(v);
+    let mut entered = 0;
     for level in (0..=v.level).rev() {
-        let at = record::sound::stands_at(w.place.0, v.shape);
+        let at = record::sound::stands_at(due.place.0, v.shape);
         let h = layout::read_header(nodes, at);
-        let rule = rules::broken(v, w, level, h);
-        if rule.is_some() {
+        if rules::broken(v, due, level, h).is_some() {
             return None;
         }
-        let picked = steps::pick(nodes, at + layout::child_at(0), h.children as u32, t);
-        let counted = Walk {
-            entered: w.entered + 1,
-            ..w
+        let picked = steps::pick(nodes, at + layout::child_at(0), u32::from(h.children), t);
+        let Ok(next) = steps::down_to(nodes, v, t, h, at, picked) else {
+            return None;
         };
-        let g = steps::down_to(nodes, v, t, h, at, picked, counted);
-        if g.rule.is_some() {
-            return None;
-        }
         let first = at + layout::entry_at(v.shape, 0);
-        if !look(nodes, attributes, h, t, first, h.intervals as u32, found) {
+        if !look(
+            nodes,
+            attributes,
+            h,
+            t,
+            first,
+            u32::from(h.intervals),
+            found,
+        ) {
             return None;
         }
-        w = g;
-        if !g.go {
-            break;
+        entered += 1;
+        match next {
+            Some(below) => due = below,
+            None => break,
         }
     }
-    Some(w.entered)
+    Some(entered)
 }
 
 // An ongoing state that starts at or below t is noted.
@@ -165,7 +169,7 @@ fn name_for(nodes: &[u8], table: &[u8], q: u32, s: u32) -> u64
 {
     if s == ONGOING {
         let o = transient::read_ongoing(table, Quark(q));
-        return q as u64 + 4294967296 * (o.kind as u64);
+        return u64::from(q) + 4294967296 * u64::from(o.kind);
     }
     layout::read_name(nodes, (s - 1) as usize)
 }

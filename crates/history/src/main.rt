@@ -14,7 +14,7 @@ use record::History;
 use std::io;
 use std::io::{Read, Write};
 
-// Reads until buf is full or the input ends, and returns how many bytes it put at the start of buf.
+// Reads until buf is full or the input ends, and returns how many bytes it put at the start of buf. How many a read gives is known only then, so the loop is a `while`.
 fn read_full<R: Read>(input: &mut R, buf: &mut [u8]) -> io::Result<usize>
     ensures in_bounds { IfOk result (λ n. n ≤ length buf.new) }
     ensures bytes { IfOk result (λ n. Consumes (R.remaining input.old) (R.remaining input.new) (take n buf.new)) }

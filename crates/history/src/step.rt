@@ -10,7 +10,7 @@ use questions::Answer;
 use record::{History, Refusal};
 
 // What there is to show of an answer: what a call said, a single question's entry, or how many nodes a full question entered.
-#[derive(Clone, Copy)]
+#[derive(Clone, Copy, Debug, PartialEq, Eq)]
 pub enum Shown {
     Said(Result<(), Refusal>),
     One(Result<Answer, Refusal>),

@@ -7,7 +7,7 @@ use mathlib.Core.List.{List}
 use Rattle.layout.specs.declared.Header.{Header}
 use Rattle.layout.specs.Layout.{entry_at}
 use Rattle.walk.specs.declared.View.{View}
-use Rattle.walk.specs.declared.Walk.{Walk}
+use Rattle.walk.specs.Standing.{Walk}
 use Rattle.walk.specs.declared.Rule.{Rule}
 use Rattle.walk.specs.View.{Roomy}
 use Rattle.walk.specs.Rules.{kept}

@@ -11,9 +11,9 @@ ghost use Rattle.questions.specs.Single.{said, walked_single, view_single, singl
 use crate::Answer;
 use layout::{Header, Quark};
 use record::{History, Refusal};
-use walk::{View, Walk, known, rules, steps};
+use walk::{View, known, rules, steps};
 
-// What was found for a quark: 0 nothing, p + 1 the one entry at byte p, MANY more than one.
+// What was found for a quark: 0 nothing, p + 1 the one entry at byte p, MANY more than one. One number, for with an enum the loop over the entries takes 5 to 9 in a hundred more instructions.
 const MANY: u64 = 0xffff_ffff;
 
 // One more, at byte p, after s was found.
@@ -77,30 +77,25 @@ fn one(s: u64) -> bool
 }
 
 // The walk of a single question: how many nodes it enters and what it finds, if it breaks none of R1 to R6.
-// Where a node's way goes on is found before its entries are looked at: the next node's header is on its way from memory meanwhile.
+// Where a node's way goes on is found before its entries are looked at: the next node's header is on its way from memory meanwhile. The full question has this loop once more: with a step that both call, a single on small nodes takes 44 in a hundred more instructions.
 fn find(v: View, t: u64, quark: Quark, nodes: &[u8]) -> Option<(u32, u64)>
     requires { Roomy v nodes.now }
     ensures kept { is_some result ≡ kept (walk_of nodes.now v t).rule }
     ensures finds { IfSome result (λ r. (r.0 ≡ (walk_of nodes.now v t).entered) × (r.1 ≡ found_of nodes.now v quark.0 t)) }
 {
-    let mut w = steps::root(v);
+    let mut due = steps::root(v);
+    let mut entered = 0;
     let mut s: u64 = 0;
     for level in (0..=v.level).rev() {
-        let at = record::sound::stands_at(w.place.0, v.shape);
+        let at = record::sound::stands_at(due.place.0, v.shape);
         let h = layout::read_header(nodes, at);
-        let rule = rules::broken(v, w, level, h);
-        if rule.is_some() {
+        if rules::broken(v, due, level, h).is_some() {
             return None;
         }
-        let picked = steps::pick(nodes, at + layout::child_at(0), h.children as u32, t);
-        let counted = Walk {
-            entered: w.entered + 1,
-            ..w
+        let picked = steps::pick(nodes, at + layout::child_at(0), u32::from(h.children), t);
+        let Ok(next) = steps::down_to(nodes, v, t, h, at, picked) else {
+            return None;
         };
-        let g = steps::down_to(nodes, v, t, h, at, picked, counted);
-        if g.rule.is_some() {
-            return None;
-        }
         let first = at + layout::entry_at(v.shape, 0);
         s = look(
             nodes,
@@ -109,15 +104,16 @@ fn find(v: View, t: u64, quark: Quark, nodes: &[u8]) -> Option<(u32, u64)>
             quark,
             t,
             first,
-            h.intervals as u32,
+            u32::from(h.intervals),
             s,
         )?;
-        w = g;
-        if !g.go {
-            break;
+        entered += 1;
+        match next {
+            Some(below) => due = below,
+            None => break,
         }
     }
-    Some((w.entered, s))
+    Some((entered, s))
 }
 
 // The walk, and R7.

@@ -12,7 +12,7 @@ use Rattle.layout.specs.declared.Header.{Header}
 use Rattle.layout.specs.Layout.{entry_size, read_entry}
 use Rattle.transient.specs.Transient.{state_sound}
 use Rattle.walk.specs.declared.View.{View}
-use Rattle.walk.specs.declared.Walk.{Walk}
+use Rattle.walk.specs.Standing.{Walk}
 use Rattle.walk.specs.Rules as Q
 use Rattle.walk.specs.Rules.{r1, r2, r3, r4, r5, broken, entry_sound}
 use Rattle.walk.specs.Walk.{all_sound}

@@ -12,7 +12,7 @@ use borrow.Author.Tests.{eq-eqb, lt-ltb, le-leb}
 use Rattle.layout.specs.declared.Header.{Header}
 use Rattle.layout.specs.Layout.{child_size, node_size, child_at, entry_at, read_header, read_child}
 use Rattle.walk.specs.declared.View.{View}
-use Rattle.walk.specs.declared.Walk.{Walk}
+use Rattle.walk.specs.Standing.{Walk}
 use Rattle.walk.specs.Rules as Q
 use Rattle.walk.specs.Rules.{r5}
 use Rattle.walk.specs.Walk as W

@@ -15,7 +15,7 @@ use Rattle.layout.specs.declared.Header.{Header}
 use Rattle.layout.specs.Layout.{entry_size, node_size, entry_at, read_entry}
 use Rattle.record.proofs.Room.{node_inside}
 use Rattle.walk.specs.declared.View.{View}
-use Rattle.walk.specs.declared.Walk.{Walk}
+use Rattle.walk.specs.Standing.{Walk}
 use Rattle.walk.specs.Rules as Q
 use Rattle.walk.specs.Rules.{r5}
 use Rattle.walk.specs.Walk as W

@@ -7,13 +7,37 @@ use mathlib.Core.Bool.{Bool, true, false, cond, not, ◌&&◌}
 use mathlib.Core.Logic.{◌⊎◌, inl, inr, ⊎_elim}
 use lib.Dec.{ltb}
 use borrow.Author.Tests.{le-ltb, lt-ltb, le-leb, lt-leb}
+use Rattle.layout.specs.declared.Shape.{Shape}
 use Rattle.record.specs.declared.Branch.{Branch}
 use Rattle.record.specs.declared.History.{History}
-use Rattle.record.specs.Levels.{start_at, children_at, last_end_at}
+use Rattle.record.specs.Levels.{start_at, intervals_at, children_at, last_end_at}
 use Rattle.settle.specs.declared.Plan.{Plan}
 use Rattle.settle.specs.declared.Verdict.{Verdict}
 use Rattle.settle.specs.declared.Verdict.TheVariants.{Here, Chain, Close}
 use Rattle.settle.specs.Settle.{fits, ruled, plan, followed, ask_up, lowest, settle, needed}
+
+-- ═══ Rules 1 and 2 ═══
+
+module _ (b : Branch) (sh : Shape) (s l : ℕ) (child : Bool) (last : ℕ) where
+  module _ (due : (not child && ltb 0 l && ltb last s) ≡ true) where
+    pub chain_ruled : children_at b l < sh.c → Chain ≡ ruled b sh s l child last
+    unfolding ruled
+    chain_ruled few = simp (due, lt-ltb _ _ few)
+
+    pub full_ruled : sh.c ≤ children_at b l → Close ≡ ruled b sh s l child last
+    unfolding ruled
+    full_ruled all = simp (due, le-ltb _ _ all)
+
+  module _ (due : (not child && ltb 0 l && ltb last s) ≡ false) where
+    pub here_ruled : intervals_at b l < sh.k → Here ≡ ruled b sh s l child last
+    unfolding ruled
+    here_ruled few = simp (due, lt-ltb _ _ few)
+
+    pub close_ruled : sh.k ≤ intervals_at b l → Close ≡ ruled b sh s l child last
+    unfolding ruled
+    close_ruled all = simp (due, le-ltb _ _ all)
+
+pub ruleset ruled-ways = (chain_ruled, full_ruled, here_ruled, close_ruled)
 
 -- ═══ The question put to level l, with the verdict v ═══
 
@@ -121,3 +145,7 @@ module _ (top : ℕ) (p : Plan) where
   pub chain : p.level ≤ top → p.chain ≡ true → p.level ≡ needed top p
   unfolding needed
   chain le e = simp (le-ltb _ _ le, e, zero-add)
+
+  pub neither : p.level ≤ top → p.chain ≡ false → 0 ≡ needed top p
+  unfolding needed
+  neither le e = simp (le-ltb _ _ le, e)

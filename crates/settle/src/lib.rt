@@ -7,7 +7,7 @@ ghost use Rattle.settle.specs.Settle.{ruled, ask_up, lowest, taken, settle, need
 use record::{History, Refusal};
 
 // What is to be done to store an interval: close so many levels from the lowest up (one above the root is a new root),
-// then make a chain below `level` and store in its lowest node, or store in `level`.
+// then make a chain below `level` and store in its lowest node, or store in `level`: `level` says where in both cases.
 #[derive(Clone, Copy, Debug, PartialEq, Eq)]
 pub struct Plan {
     pub closes: u64,

@@ -3,7 +3,7 @@ use Rattle.std.specs.Prelude.{Option, Some, None, is_some, IfSome, ◌<◌}
 use Rattle.std.proofs.Common.{◌≡◌, ℕ, ◌≤◌, Bool, true, false, cond, ◌&&◌, T, leb, sym, refl, ap, ◌∙◌, subst, leb-true, arith}
 use Rattle.layout.specs.declared.Header.{Header}
 use Rattle.walk.specs.declared.View.{View}
-use Rattle.walk.specs.declared.Walk.{Walk}
+use Rattle.walk.specs.Standing.{Walk}
 use Rattle.walk.specs.declared.Rule.{Rule}
 use Rattle.walk.specs.declared.Rule.TheVariants.{R1, R2, R3, R4, R5}
 use Rattle.walk.specs.Rules.{r1, r2, r3, r4, r5, broken, kept}

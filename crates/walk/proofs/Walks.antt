@@ -9,7 +9,7 @@ use Rattle.layout.specs.declared.Seq.{Seq}
 use Rattle.layout.specs.Layout.{entry_size, child_at, entry_at, read_header, read_child, read_entry}
 use Rattle.transient.specs.Transient.{state_sound}
 use Rattle.walk.specs.declared.View.{View}
-use Rattle.walk.specs.declared.Walk.{Walk}
+use Rattle.walk.specs.Standing.{Walk}
 use Rattle.walk.specs.declared.Rule.{Rule}
 use Rattle.walk.specs.declared.Rule.TheVariants.{R1, R6}
 use Rattle.walk.specs.Rules.{broken, kept, entry_sound, holds}

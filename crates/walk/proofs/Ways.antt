@@ -1,13 +1,16 @@
 -- The walk: each way through its definitions, turn by turn. Assumes nothing.
-use Rattle.std.specs.Prelude.{Option, Some, None}
-use Rattle.std.proofs.Common.{◌≡◌, ℕ, zero, suc, ◌+◌, ◌-◌, ◌*◌, ◌<◌, ◌≤◌, Bool, cond, leb, List, sym, ap, ◌∙◌, arith, le-leb}
+use Rattle.std.specs.Prelude.{Option, Some, None, Result, Ok, Err}
+use Rattle.std.proofs.Common.{◌≡◌, ℕ, zero, suc, ◌+◌, ◌-◌, ◌*◌, ◌<◌, ◌≤◌, Bool, false, cond, leb, List, sym, ap, ◌∙◌, arith, le-leb}
 use borrow.Author.Tests.{lt-leb}
 use Rattle.layout.specs.declared.Header.{Header}
 use Rattle.layout.specs.Layout.{child_size, child_at, read_child}
 use Rattle.words.specs.Words.{num}
 use Rattle.walk.specs.declared.View.{View}
-use Rattle.walk.specs.declared.Walk.{Walk}
-use Rattle.walk.specs.Walk.{counted, pick, down_to, descend}
+use Rattle.walk.specs.declared.Breach.{Breach}
+use Rattle.walk.specs.declared.Due.{Due}
+use Rattle.walk.specs.Rules.{kept}
+use Rattle.walk.specs.Standing.{Walk, due_at}
+use Rattle.walk.specs.Walk.{counted, ended, after, pick, down_to, descend}
 
 -- ---- the child taken: looked for from the last entry down
 
@@ -46,9 +49,23 @@ pub pick_none : (l : List ℕ) (t at i : ℕ) → i ≤ 0 → pick l t at 0 i No
 unfolding pick
 pick_none l t at i h = let e : i ≡ 0 = omega arith in ap (λ (m : ℕ). pick l t at 0 m None) e
 
--- ---- down from a node
+-- ---- down from a node, as the code tells the way
 
-pub descend_done : (l : List ℕ) (v : View) (t : ℕ) (h : Header) (p : ℕ) (w r : Walk) (at : ℕ) (picked : Option ℕ) → at ≡ child_at 0 → picked ≡ pick l t (p + at) 0 h.children None
-    → r ≡ down_to l v t h p picked (counted w) → r ≡ descend l v t h p w
-unfolding descend
-descend_done l v t h p w r at picked is picks e = rw (← is, ← picks) e
+module _ (l : List ℕ) (v : View) (t : ℕ) (h : Header) (p : ℕ) (w : Walk) (at : ℕ) (picked : Option ℕ) (r : Result (Option Due) Breach)
+    (is : at ≡ child_at 0) (picks : picked ≡ pick l t (p + at) 0 h.children None) (gives : (x : Walk) → after x r ≡ down_to l v t h p picked x) where
+  went : after (counted w) r ≡ descend l v t h p w
+  unfolding descend
+  went = rw (← is, ← picks) (gives (counted w))
+
+  -- the child breaks a rule
+  pub down_broken : (b : Breach) → r ≡ Err b → kept (descend l v t h p w).rule ≡ false
+  unfolding ended
+  down_broken b e = ap (λ (x : Walk). kept x.rule) (sym went ∙ ap (after (counted w)) e)
+
+  -- no child holds t
+  pub down_ended : r ≡ Ok None → ended (counted w) None (counted w).place ≡ descend l v t h p w
+  down_ended e = ap (after (counted w)) (sym e) ∙ went
+
+  pub down_onto : (d : Due) → r ≡ Ok (Some d) → due_at d (w.entered + 1) ≡ descend l v t h p w
+  unfolding counted
+  down_onto d e = ap (after (counted w)) (sym e) ∙ went

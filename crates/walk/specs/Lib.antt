@@ -1,4 +1,5 @@
 pub mod View
+pub mod Standing
 pub mod Rules
 pub mod Since
 pub mod Walk

@@ -1,11 +1,13 @@
 -- The walk from the root, on any bytes: document 01, "Otherwise it walks from the root".
-use Rattle.std.specs.Prelude.{ℕ, zero, suc, ◌+◌, ◌*◌, Bool, true, false, cond, ◌&&◌, List, nat_le, nat_lt, Option, Some, None}
+use Rattle.std.specs.Prelude.{ℕ, zero, suc, ◌+◌, ◌*◌, Bool, true, false, cond, ◌&&◌, List, nat_le, nat_lt, Option, Some, None, Result, Ok, Err}
 use Rattle.layout.specs.declared.Child.{Child}
 use Rattle.layout.specs.declared.Header.{Header}
 use Rattle.layout.specs.declared.Seq.{Seq}
 use Rattle.layout.specs.Layout.{child_size, entry_size, node_size, child_at, entry_at, read_header, read_child, read_entry}
 use Rattle.walk.specs.declared.View.{View}
-use Rattle.walk.specs.declared.Walk.{Walk}
+use Rattle.walk.specs.declared.Due.{Due}
+use Rattle.walk.specs.declared.Breach.{Breach}
+use Rattle.walk.specs.Standing.{Walk, due_at}
 use Rattle.walk.specs.declared.Rule.{Rule}
 use Rattle.walk.specs.declared.Rule.TheVariants.{R1, R6}
 use Rattle.walk.specs.Rules.{broken, kept, entry_sound, holds}
@@ -31,6 +33,12 @@ counted w = record { go = w.go; rule = w.rule; place = w.place; root = w.root; s
 -- at a child, under a parent with this end
 unfoldable pub onward : Walk → Child → ℕ → Walk
 onward w c end = record { go = true; rule = None; place = c.sequence; root = false; start = c.start; end = end; entered = w.entered }
+
+-- after a way down from where it stood, as the code tells it: onto a node that is due, ended well, or by a rule that is broken
+abbrev pub after : Walk → Result (Option Due) Breach → Walk
+after w (Ok (Some d)) = due_at d w.entered
+after w (Ok None) = ended w None w.place
+after w (Err b) = ended w (Some b.rule) b.place
 
 -- ═══ One node ═══
 

@@ -7,7 +7,7 @@ use Rattle.full_question.proofs.all.name_for.Goals as goal
 
 pub returns-then-s-eq-ONGOING : goal.returns-then-s-eq-ONGOING
 unfolding interval
-returns-then-s-eq-ONGOING c = ap entry_name (entry_table _ _ _ _ _ _ c.if-s-eq-ONGOING.true c.read_ongoing-o.ensures refl)
+returns-then-s-eq-ONGOING c = rw (c.from.ensures, c.from-then-s-eq-ONGOING.ensures) (ap entry_name (entry_table _ _ _ _ _ _ c.if-s-eq-ONGOING.true c.read_ongoing-o.ensures refl))
 
 pub returns : goal.returns
 returns c = c.read_name.ensures ∙ ap entry_name (entry_node _ _ _ _ _ c.if-s-eq-ONGOING.false refl)
