@@ -2,6 +2,7 @@
 use Prim.Native.Nat.{ℕ, ◌≤◌}
 use mathlib.Core.Path.{◌≡◌, refl, sym, ◌∙◌}
 use mathlib.Core.Bool.{Bool, true, false, cond}
+use Rattle.std.specs.Prelude.{Ok, Err}
 use Rattle.record.specs.declared.History.{History}
 use Rattle.record.specs.Refusals.{Reply, Nothing, accepted}
 use Rattle.record.specs.Sound.{last_time}
@@ -17,6 +18,15 @@ use Rattle.build.proofs.Plans.{feasible, then_nothing}
 -- a plan that is not refused can be carried out
 pub plan_can : (h : History) (s : ℕ) (p : Plan) (r : Reply) → p ≡ settle h s → r ≡ plan_refusal h p → Firm h → r ≡ Nothing → Feasible h p
 plan_can h s p r settled is f x = let y : plan_refusal h (settle h s) ≡ Nothing = rw settled at (sym is ∙ x) in rw settled (feasible h s f y)
+
+-- a plan that is refused leaves the record as it came
+pub refused : (r : Reply) → (r ≡ Nothing → ⊥) → accepted r ≡ false
+refused (Ok u) never = absurd (never refl)
+refused (Err n) never = refl
+
+pub tried_refused : (h : History) (s e : ℕ) (p : Plan) (r : Reply) → p ≡ settle h s → r ≡ plan_refusal h p → (r ≡ Nothing → ⊥) → (r ≡ (tried h s e).refusal) × (h ≡ (tried h s e).history)
+unfolding tried
+tried_refused h s e p r settled is k = (simp (← settled, ← is, refused r k), simp (← settled, ← is, refused r k))
 
 -- ═══ What a trial keeps ═══
 

@@ -5,7 +5,6 @@ ghost use Rattle.record.specs.Levels.{place_at, intervals_at, children_at};
 ghost use Rattle.record.specs.Firm.{Shaped, Firm};
 ghost use Rattle.build.specs.Moves.{held, parent_at, head_of, stands_at, put_head, put_new, Fitting, Standing, Room, close, raise, make, added, store};
 
-// What each asks, `Firm` and `Room`, is no invariant of a type: a host lends any record and any buffer, and the calls answer what is wrong with them.
 use layout::{Child, Entry, Header, Seq};
 use record::History;
 
@@ -26,7 +25,7 @@ fn parent_of(h: &History, level: u64) -> Seq
     Seq(NO_PARENT)
 }
 
-// "What is written into open nodes comes from the record, not from node bytes."
+// "What is written into open nodes comes from the record, not from node bytes." The state is the node's byte: 1 open, 2 closed.
 #[tactic(auto, unfolding(crate::specs::Moves::head_of))]
 fn head_of(h: &History, level: u64, end: u64, state: u8) -> Header
     requires { Fitting h.now.branch h.now.top level }
@@ -74,6 +73,10 @@ pub fn put_new(nodes: &mut [u8], h: &History, level: u64, first: Option<Child>)
     let head = head_of(h, level, OPEN_END, 1);
     layout::put_node(nodes, at, h.shape, head, first);
 }
+
+// ---- the four moves, and an entry alone
+
+// What each asks, `Firm` and `Room`, is no invariant of a type: a host lends any record and any buffer, and the calls answer what is wrong with them. A struct of both would be a third thing lent, of which a clause speaks by ghost names.
 
 // "Closing gives the node .. the end S": the lowest level, under an open one.
 #[tactic(auto, unfolding(crate::specs::Moves::close))]

@@ -11,7 +11,7 @@ use crate::moves;
 use layout::Entry;
 use record::{History, Refusal};
 
-// Stores an interval, or does nothing where depth or room would not do.
+// Stores an interval, or does nothing where depth or room would not do. (Why `Firm` and `Room` are asked and no type's invariant: moves.rt.)
 pub fn insert(nodes: &mut [u8], h: &mut History, e: Entry) -> Result<(), Refusal>
     requires { Firm h.old × Room h.old nodes.old × (e.end ≤ last_time) }
     ensures { (result ≡ plan_refusal h.old (settle h.old e.start)) × (held h.new nodes.new ≡ inserted e (held h.old nodes.old)) }

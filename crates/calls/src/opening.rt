@@ -7,7 +7,7 @@ ghost use Rattle.calls.specs.Open.{opened, table_opened, open_refusal, open_on};
 use layout::{Quark, Shape};
 use record::{Branch, History, Refusal};
 
-// The record of a history that begins.
+// The record of a history that begins. The shape is a parameter here and below: there is no record yet that has it.
 #[tactic(auto, unfolding(crate::specs::Open::opened))]
 fn begin(start: u64, attributes: u32, shape: Shape) -> History
     ensures { result ≡ opened start attributes shape }

@@ -42,7 +42,7 @@ fn trial(h: History, table: &[u8], t: u64) -> Result<(), Refusal>
     Ok(())
 }
 
-// The header of the level that is due, if there is one.
+// The header of the level that is due, if there is one, open (1). (Why `Firm` and `Room` are asked and no type's invariant: build/src/moves.rt.)
 #[tactic(auto, unfolding(crate::specs::Due::caught_up))]
 fn write_due(nodes: &mut [u8], h: &History, due: Option<u64>)
     requires { Firm h.now × Room h.now nodes.old × Due h.now due }

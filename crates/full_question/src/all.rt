@@ -15,7 +15,7 @@ use layout::{Entry, Header, Quark};
 use record::{History, Refusal};
 use walk::{View, known, rules, steps};
 
-// What was found for each quark: 0 nothing, p + 1 the one entry at byte p, ONGOING its ongoing state. At a second one the question ends. One number, as in the single question: an enum is slower, and twice as long.
+// What was found for each quark: 0 nothing, p + 1 the one entry at byte p, ONGOING its ongoing state. At a second one the question ends. One number of 32 bits, as in the single question: an enum is twice as long.
 const ONGOING: u32 = 0xffff_fffe;
 
 // An entry at byte p that covers t is noted for its quark. Tells false where that quark has one already: R7 is broken, whatever else is found.
@@ -35,7 +35,7 @@ fn note(found: &mut [u32], t: u64, p: usize, e: Entry) -> bool
     true
 }
 
-// Each of a node's entries is read once, for R6 and for its quark, up to the first that does not fit or that is a second one for its quark; the kinds and the nulls' values are tested at the end, for all of them at once. What was noted matters only where none breaks R6 or R7.
+// What the single question's `look` finds for one quark, this notes for all. Each of a node's entries is read once, for R6 and for its quark, up to the first that does not fit or that is a second one for its quark; the kinds and the nulls' values are tested at the end, for all of them at once. What was noted matters only where none breaks R6 or R7.
 fn look(
     nodes: &[u8],
     attributes: u32,
@@ -67,7 +67,7 @@ fn look(
 }
 
 // The walk: each entry of the nodes that it enters is noted for its quark. Tells how many nodes they are, if they keep R1 to R6 and no second one is found for a quark; else R7 is broken too.
-// Where a node's way goes on is found before its entries are looked at: the next node's header is on its way from memory meanwhile.
+// Where a node's way goes on is found before its entries are looked at: the next node's header is on its way from memory meanwhile. The loop stands in the single question too, which says why.
 fn gather(nodes: &[u8], v: View, t: u64, attributes: u32, found: &mut [u32]) -> Option<u32>
     requires { Roomy v nodes.now × (attributes ≡ v.attributes) × (attributes ≤ length found.old) × (once attributes found.old ≡ true) }
     ensures told { is_some result ≡ (kept (walk_of nodes.now v t).rule && once attributes (found_all nodes.now v t found.old)) }
@@ -118,7 +118,7 @@ fn begin(found: &mut [u32], q: u32, start: u64, t: u64)
     }
 }
 
-// The ongoing entries are tested, and those that start at or below t noted; once finished none is read.
+// The ongoing entries are tested, and those that start at or below t noted, in one loop; once finished none is read.
 fn note_ongoing(table: &[u8], v: View, t: u64, found: &mut [u32]) -> bool
     requires { (v.attributes ≤ length found.old) × (v.finished ≡ false → v.attributes ≤ length table.now / entry_size) }
     ensures fine { result ≡ every_quark (λ q. entry_fine v q table.now) v.attributes }

@@ -1,6 +1,6 @@
 -- Each way through a record. Assumes nothing.
 use mathlib.Core.Path.{◌≡◌, refl, sym, ap, ◌∙◌}
-use mathlib.Core.Bool.{Bool, false, cond}
+use mathlib.Core.Bool.{Bool, true, false, cond, ◌||◌}
 use mathlib.Core.List.{List}
 use lib.ListN.{length}
 use Prim.Native.Nat.{ℕ}
@@ -8,12 +8,12 @@ use Rattle.std.specs.Prelude.{Ok, Err, is_ok}
 use Rattle.feed.specs.declared.Record.{Record}
 use Rattle.feed.specs.declared.Record.TheVariants.{Open, Set, Remove, Increment, Add, Finish, Single, Full}
 use Rattle.record.specs.declared.History.{History}
-use Rattle.record.specs.Refusals.{Reply, Nothing, accepted}
+use Rattle.record.specs.Refusals.{Reply, Nothing, NotOpen, accepted}
 use Rattle.layout.specs.declared.Shape.{Shape}
 use Rattle.build.specs.Write.{planted}
 use Rattle.calls.specs.Outcome.{Answer, Outcome, Comes, answered, outcome, or_refused}
 use Rattle.calls.specs.Open.{blank, opened, table_opened, open_refusal, open_on, open_of}
-use Rattle.history.specs.Step.{State, Said, leaving, done, holding, opened_by, opens, after, after_open}
+use Rattle.history.specs.Step.{State, Said, leaving, done, holding, opened_by, opens, called, carried, after, after_open}
 
 pub ok_accepted : (r : Reply) → is_ok r ≡ accepted r
 ok_accepted (Ok u) = refl
@@ -50,6 +50,16 @@ pub began : (said : Reply) (h came : History) (start attributes : ℕ) (shape : 
 unfolding after_open opened_by
 began said h came start attributes shape nodes table left rows is s t b tells e answer =
     rw (← e, tells, ok_accepted said) (ap (λ (x : Outcome). after_open s x answer) is ∙ came_no_matter s came start attributes shape nodes table answer)
+
+-- 15, or what the record asks for
+module _ (r : Record) (s : State) (nodes table answer : List ℕ) where
+  pub not_open : opens r || s.opened ≡ false → carried r s nodes table answer ≡ leaving (done s (Said NotOpen)) nodes table answer
+  unfolding carried
+  not_open e = ap (λ (b : Bool). cond b (called r s nodes table answer) (leaving (done s (Said NotOpen)) nodes table answer)) e
+
+  pub is_open : opens r || s.opened ≡ true → carried r s nodes table answer ≡ called r s nodes table answer
+  unfolding carried
+  is_open e = ap (λ (b : Bool). cond b (called r s nodes table answer) (leaving (done s (Said NotOpen)) nodes table answer)) e
 
 -- a record that is not of tag 1
 pub not_opening : (r : Record) → ((start attributes k c n : ℕ) → r ≡ Open start attributes k c n → ⊥) → opens r ≡ false

@@ -1,4 +1,5 @@
-// What a record is answered, as text: "Each line: record number from 0, answer number." Plain decimal, one space between, a newline at the end.
+// What a record is answered, as text, by functions and not by `Display`: a full answer's text needs the answer's bytes and the attribute count beside it.
+// "Each line: record number from 0, answer number." Plain decimal, one space between, a newline at the end.
 ghost use Rattle.std.specs.Prelude.{◌≡◌, ◌*◌, ◌≤◌, ◌∷◌, length, IfSome, OnOk};
 ghost use Rattle.std.specs.Io.KnownBytes.{Appends};
 ghost use Rattle.layout.specs.Layout.{entry_size};

@@ -17,7 +17,7 @@ pub enum Shown {
     All(Result<u32, Refusal>),
 }
 
-// "A second open starts anew; refused, it changes nothing."
+// "A second open starts anew; refused, it changes nothing." The shape is the record's that is read: no history has it yet.
 fn begin(
     current: &mut Option<History>,
     start: u64,

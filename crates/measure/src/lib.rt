@@ -36,7 +36,7 @@ fn say(said: &mut [u8], at: usize, r: Result<(), Refusal>, nodes: u32, e: Entry)
     layout::put_entry(said, at + 8, e);
 }
 
-// Kinds 0 to 3 and the rest: set, remove, increment, add, finish.
+// Kinds 0 to 3 and the rest: set, remove, increment, add, finish. The kind stays a script's byte: an enum would be made by the same list of numbers.
 #[tactic(auto, unfolding(crate::specs::Measure::call_of))]
 fn call(h: &mut History, e: Entry, nodes: &mut [u8], table: &mut [u8]) -> Result<(), Refusal>
     ensures { Comes result h.new nodes.new table.new (call_of h.old e nodes.old table.old) }

@@ -53,7 +53,7 @@ fn admit(
     if !known::view_sound(v) {
         return Err(Refusal::Damaged);
     }
-    if !known::long_for(v, nodes, 0) || answer < wants {
+    if !known::long_for(v, nodes, 0) | (answer < wants) {
         return Err(Refusal::Short);
     }
     if !known {
@@ -65,6 +65,7 @@ fn admit(
     Ok(())
 }
 
+// The two below differ in what they ask of the answer's length and of a quark, and in what writes the entries; what they have in common is `admit`.
 #[tactic(auto, using(crate::proofs::Heads::head_long, crate::proofs::Heads::head_roomy))]
 fn single_on(v: View, t: u64, quark: u32, nodes: &[u8], answer: &mut [u8]) -> Result<(), Refusal>
     ensures { (result ≡ single_refusal v t quark nodes.now (length answer.old)) × (answer.new ≡ single_written v t quark nodes.now answer.old) }

@@ -13,7 +13,7 @@ use layout::{Header, Quark};
 use record::{History, Refusal};
 use walk::{View, known, rules, steps};
 
-// What was found for a quark: 0 nothing, p + 1 the one entry at byte p, MANY more than one. One number, for with an enum the loop over the entries takes 5 to 9 in a hundred more instructions.
+// What was found for a quark: 0 nothing, p + 1 the one entry at byte p, MANY more than one. One number: with an enum the same loop in plain Rust takes 5 to 9 in a hundred more instructions.
 const MANY: u64 = 0xffff_ffff;
 
 // One more, at byte p, after s was found.

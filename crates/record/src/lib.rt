@@ -9,7 +9,7 @@ ghost use Rattle.record.specs.Refusals.{number_of};
 
 use layout::Shape;
 
-// "The open branch is kept in the record by value, one entry for each of the sixteen levels." Whoever keeps a history holds its record by value, and a call
+// "The open branch is kept in the record by value, one entry for each of the sixteen levels": as arrays of sixteen, the form that the specification names. Whoever keeps a history holds its record by value, and a call
 // is lent it. A place and the counts are narrower in a node: here a caller may hand in any number, and soundness tests it.
 #[derive(Clone, Copy, Debug, Default, PartialEq, Eq)]
 pub struct Branch {
@@ -20,7 +20,7 @@ pub struct Branch {
     pub last_ends: [u64; 16],
 }
 
-// The levels from low to top are open and top is the root's; once finished, low is top + 1, and none is open.
+// The levels from low to top are open and top is the root's; once finished, low is top + 1, and none is open. `finished` is a number of the definition, as it was: the root's place is read of the branch even then.
 #[derive(Clone, Copy, Debug, Default, PartialEq, Eq)]
 pub struct History {
     pub shape: Shape,
@@ -56,7 +56,7 @@ pub enum Refusal {
     LongFeed = 16,
 }
 
-// The number of what a call said.
+// The number of what a call said: 0 is no refusal, so it is a function of the `Result`.
 #[tactic(auto, unfolding(crate::specs::Refusals::number_of))]
 pub fn number(said: Result<(), Refusal>) -> u32
     ensures { result ≡ number_of said }

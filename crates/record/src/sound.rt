@@ -54,6 +54,8 @@ impl History {
             && self.used <= u64::from(self.shape.n)
     }
 
+    // Levels are numbers and no type with an invariant, here and in moves.rt: a record may be damaged, and its `low` and `top` any.
+
     // "open counts within K and C, places below the used count, every open level above 0 has a child": `&&` as above
     #[tactic(auto, unfolding(crate::specs::Sound::level_sound))]
     fn level_sound(&self, level: u64) -> bool
