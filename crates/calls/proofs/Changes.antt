@@ -7,7 +7,7 @@ use native.Mathlib.Omega.{arith}
 use lib.Dec.{leb, ltb}
 use lib.IntN.{ℤ}
 use lib.ListN.{length}
-use borrow.Author.Tests.{le-leb, lt-leb, le-ltb, lt-ltb, leb-false, ltb-false, not-true, not-false}
+use borrow.Author.Tests.{le-leb, lt-leb, leb-false, ltb-false}
 use Rattle.layout.specs.declared.Quark.{Quark}
 use Rattle.layout.specs.declared.Entry.{Entry}
 use Rattle.layout.specs.Layout.{entry_size}
@@ -101,27 +101,6 @@ module _ (h : History) (q : Quark) (nodes table : ℕ) (r : Reply) (said : r ≡
 
       pub unasked_fine : q.0 < h.attributes → R.Nothing ≡ unasked h q nodes table
       unasked_fine lt = let s : R.Nothing ≡ rest h q = rw (going, lt-leb h.attributes q.0 lt) in s ∙ after
-
--- ---- 3 entry, 6, 5
-
-module _ (h : History) (o : Ongoing) (t : ℕ) (x : Bool) (is : x ≡ ongoing_sound o h.start h.latest) where
-  pub untimely_damaged : not x ≡ true → R.Damaged ≡ untimely h o t
-  unfolding untimely
-  untimely_damaged n = simp (← is, not-true x n)
-
-  module _ (m : not x ≡ false) where
-    pub untimely_outside : last_time < t → R.Outside ≡ untimely h o t
-    unfolding untimely
-    untimely_outside lt = simp (← is, not-false x m, lt-ltb last_time t lt)
-
-    module _ (le : t ≤ last_time) where
-      pub untimely_early : t < h.latest → R.Early ≡ untimely h o t
-      unfolding untimely
-      untimely_early lt = simp (← is, not-false x m, le-ltb last_time t le, lt-ltb _ _ lt)
-
-      pub untimely_fine : h.latest ≤ t → R.Nothing ≡ untimely h o t
-      unfolding untimely
-      untimely_fine ge = simp (← is, not-false x m, le-ltb last_time t le, le-ltb _ _ ge)
 
 -- ---- what the first two parts give where they do not refuse
 

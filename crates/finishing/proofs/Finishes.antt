@@ -20,7 +20,7 @@ use Rattle.record.specs.Firm.{Firm}
 use Rattle.record.proofs.Facts.{admitted_facts, sound_firm, sound_numbers}
 use Rattle.record.proofs.Runs.{all_none, all_fails, all_turn}
 use Rattle.transient.specs.declared.Ongoing.{Ongoing}
-use Rattle.transient.specs.Transient.{table_at, ongoing_at, ongoing_sound, interval}
+use Rattle.transient.specs.Transient.{ongoing_at, ongoing_sound, interval}
 use Rattle.settle.specs.Settle.{settle, plan_refusal}
 use Rattle.build.specs.Moves.{Held, held, Room}
 use Rattle.build.specs.Write.{inserted, close_all}
@@ -37,9 +37,6 @@ use Rattle.finishing.proofs.Due.{length_caught}
 
 no : {A : Type 0} → ◌≡◌ {A = ℕ} 0 1 → A
 no e = absurd (omega arith)
-
-pub entry_inside : (q attributes long : ℕ) → q < attributes → attributes ≤ long / entry_size → table_at q + entry_size ≤ long
-entry_inside q attributes long lt le = omega arith
 
 -- ═══ Every entry is sound: what is left from the entry reached is the whole ═══
 
