@@ -1,14 +1,18 @@
 -- What a sound record, and buffers long enough for it, give to the view that a question goes on with. Assumes nothing.
-use Rattle.std.proofs.Common.{◌≡◌, ℕ, ◌*◌, ◌/◌, ◌<◌, ◌≤◌, Bool, true, false, not, ◌||◌, leb, List, length, sym, ◌∙◌, arith, leb-true}
+use Rattle.std.proofs.Common.{◌≡◌, ℕ, ◌*◌, ◌/◌, ◌<◌, ◌≤◌, Bool, true, false, not, ◌||◌, leb, List, length, sym, refl, ◌∙◌, arith, leb-true}
 use borrow.Author.Tests.{not-false}
 use Rattle.layout.specs.Layout.{entry_size, node_size}
 use Rattle.record.specs.declared.History.{History}
-use Rattle.record.specs.Sound.{sound}
+use Rattle.record.specs.Sound.{sound, long_enough}
 use Rattle.record.proofs.Facts.{sound_shape, sound_numbers, sound_root}
 use Rattle.record.specs.Levels.{place_at}
 use Rattle.walk.specs.declared.View.{View}
 use Rattle.walk.specs.View.{view_of, long_for, Roomy}
 use Rattle.walk.proofs.Broken.{and_left}
+
+pub long_same : (h : History) (m n : ℕ) → long_enough h m n ≡ long_for (view_of h) m n
+unfolding long_enough long_for view_of
+long_same h m n = refl
 
 -- a sound record's numbers are small
 module _ (h : History) (is : sound h ≡ true) where
